@@ -24,11 +24,13 @@ mod objects;
 mod outputs;
 mod tracing;
 
-pub use answering::ExploreOutput;
+pub use answering::{ExploreOutput, verdict_of_all};
 pub use asking::{ExploreFormat, ExploreOptions, ExploreRequest};
 pub use conditions::{conditions_asked, satisfied};
 pub use formats::answer_request;
 pub use found::{FoundTexts, has_its_text};
 pub use given::refused_text;
 pub use objects::push_summary;
-pub use outputs::{push_heading, push_states_line};
+pub use outputs::{
+    push_counterexample, push_found_texts, push_heading, push_place, push_states_line, push_verdict,
+};

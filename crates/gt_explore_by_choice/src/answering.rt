@@ -3,7 +3,7 @@ ghost use Rattle.std.specs.Prelude.{◌≡◌, ◌<◌, ℕ, List, All, IfOk, If
 ghost use Rattle.std.specs.List.{position};
 ghost use Rattle.std.specs.Option.{option_map};
 ghost use Rattle.std.specs.Str.{bytes_eq};
-ghost use Rattle.gt_explore_answers.specs.Exploring.{GivesTexts, verdict_of_all};
+ghost use Rattle.gt_explore_answers.specs.Exploring.{GivesTexts};
 ghost use Rattle.gt_explore_answers.specs.Outputs.{found_from};
 ghost use Rattle.gt_explore_answers.specs.Texts.{texts_of_orders};
 ghost use Rattle.gt_explore_answers.specs.Witness.{IsTextNumbered};
@@ -15,26 +15,14 @@ ghost use Rattle.gt_explore_verdict.specs.Formulas.{operation_asked};
 ghost use Rattle.gt_explore_verdict.specs.Judging.{verdict_at};
 ghost use Rattle.gt_explore_verdict.specs.declared.judging.Claim.TheVariants.{Find};
 
-use crate::comments::counterexample_comment;
-use crate::listing::{place_shown, texts_output, verdict_shown};
+use crate::listing::{counterexample_comment, place_shown, texts_output, verdict_shown};
 use crate::scripts::script_of;
-use gt_explore_answers::{ExploreOutput, ExploreRequest, FoundTexts, satisfied};
+use gt_explore_answers::{ExploreOutput, ExploreRequest, FoundTexts, satisfied, verdict_of_all};
 use gt_explore_choices::Choices;
 use gt_explore_faults::TextsFault;
 use gt_explore_search::FoundText;
 use gt_explore_verdict::{Claim, Judgement, Operation, Verdict, judge, verdict_at};
 use std::alloc::Global;
-
-// Returns the verdict on a request that decides nothing.
-fn verdict_of_all(whole: bool) -> Verdict
-    ensures { result ≡ verdict_of_all whole }
-{
-    if whole {
-        Verdict::Holds
-    } else {
-        Verdict::Undecided
-    }
-}
 
 // Returns all texts that were found.
 fn all_texts(alloc: Global, found: &FoundTexts) -> Result<ExploreOutput, TextsFault>

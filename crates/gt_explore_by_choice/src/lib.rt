@@ -10,7 +10,6 @@
 #![tactic(auto)]
 
 mod answering;
-mod comments;
 mod exploring;
 mod fault;
 mod listing;

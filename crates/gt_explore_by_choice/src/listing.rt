@@ -1,73 +1,15 @@
 //! What is printed of the texts of a script with choices.
-ghost use Rattle.std.specs.Prelude.{◌≡◌, ◌+◌, ◌++◌, ◌<◌, IfOk, IfSome, OnOk, length};
-ghost use Rattle.std.specs.List.{flat_map};
+ghost use Rattle.std.specs.Prelude.{◌≡◌, ◌++◌, ◌<◌, IfOk, IfSome, OnOk, length};
 ghost use Rattle.gt_explore_answers.specs.Exploring.{number_output, verdict_line};
-ghost use Rattle.gt_explore_answers.specs.Outputs.{comment_byte, commented, counterexample_comment};
-ghost use Rattle.gt_explore_answers.specs.Outputs.{counterexample_lines, found_from, heading, states_line};
-ghost use Rattle.gt_explore_answers.specs.Outputs.{states_output, text_shown, texts_listed, texts_output};
-ghost use Rattle.gt_explore_answers.specs.Texts.{texts_of_orders};
-ghost use Rattle.gt_explore_answers.specs.Tracing.{heading_line};
+ghost use Rattle.gt_explore_answers.specs.Outputs.{counterexample_comment, found_from, states_line, texts_output};
 ghost use Rattle.gt_explore_by_choice.specs.Answering.{waiting_comment, waiting_line};
 
-use gt_explore_answers::{FoundTexts, push_heading, push_states_line};
-use gt_explore_search::FoundText;
+use gt_explore_answers::{
+    FoundTexts, push_counterexample, push_found_texts, push_place, push_verdict,
+};
 use gt_explore_verdict::Verdict;
 use gt_text::{push_number, push_text};
 use std::alloc::{AllocError, Global};
-
-// Appends the number of a text as a line.
-fn push_heading_line(out: &mut Vec<u8>, found: &FoundTexts, number: usize) -> Result<(), AllocError>
-    ensures { OnOk result (out.new.items ≡ out.old.items ++ heading_line (found_from found.now) number) }
-{
-    push_heading(out, found.whole, found.texts.len(), number)?;
-    push_text(out, "\n")
-}
-
-// Appends a text under its number, if it is wanted.
-fn push_shown(
-    out: &mut Vec<u8>,
-    wanted: bool,
-    whole: bool,
-    count: usize,
-    number: usize,
-    text: &[u8],
-) -> Result<(), AllocError>
-    ensures { OnOk result (out.new.items ≡ out.old.items ++ text_shown wanted whole count number text.now) }
-{
-    if !wanted {
-        return Ok(());
-    }
-    push_heading(out, whole, count, number)?;
-    push_text(out, "\n")?;
-    out.extend_from_slice(text)
-}
-
-// Appends the wanted ones of these texts under their numbers.
-fn push_listed(
-    out: &mut Vec<u8>,
-    whole: bool,
-    texts: &[FoundText],
-    wanted: &[bool],
-) -> Result<(), AllocError>
-    requires { length wanted.now ≡ length texts.now }
-    ensures { OnOk result (out.new.items
-        ≡ out.old.items ++ texts_listed whole (length texts.now) 0 (texts_of_orders texts.now) wanted.now) }
-{
-    let mut number = 0;
-    'texts: for order in texts {
-        let wants = wanted[number];
-        number += 1;
-        push_shown(
-            out,
-            wants,
-            whole,
-            texts.len(),
-            number,
-            order.text.as_slice(),
-        )?;
-    }
-    Ok(())
-}
 
 /// Returns the wanted ones of these texts under their numbers, and the number of states.
 ///
@@ -82,20 +24,8 @@ pub fn texts_output(
     ensures { IfOk result (λ out. out.items ≡ texts_output (found_from found.now) wanted.now) }
 {
     let mut out = Vec::new(alloc);
-    push_listed(&mut out, found.whole, found.texts.as_slice(), wanted)?;
-    push_states_line(&mut out, found)?;
+    push_found_texts(&mut out, found, wanted)?;
     Ok(out)
-}
-
-// Returns the first line of a verdict that no text shows.
-fn verdict_line(verdict: Verdict) -> &'static str
-    ensures { result.now ≡ verdict_line verdict }
-{
-    match verdict {
-        Verdict::Holds => "holds\n",
-        Verdict::Fails => "does not hold\n",
-        Verdict::Undecided => "not decided\n",
-    }
 }
 
 /// Returns a verdict that no text shows, and the number of states.
@@ -110,8 +40,7 @@ pub fn verdict_shown(
     ensures { IfOk result (λ out. out.items ≡ verdict_line verdict ++ states_line (found_from found.now)) }
 {
     let mut out = Vec::new(alloc);
-    push_text(&mut out, verdict_line(verdict))?;
-    push_states_line(&mut out, found)?;
+    push_verdict(&mut out, found, verdict)?;
     Ok(out)
 }
 
@@ -128,10 +57,24 @@ pub fn place_shown(
     ensures { IfOk result (λ out. out.items ≡ number_output (found_from found.now) place) }
 {
     let mut out = Vec::new(alloc);
-    if let Some(at) = place {
-        push_heading_line(&mut out, found, at + 1)?;
-    }
-    push_states_line(&mut out, found)?;
+    push_place(&mut out, found, place)?;
+    Ok(out)
+}
+
+/// Returns the comment over a script that gives a text of this number, which shows that a claim does not hold.
+///
+/// # Errors
+/// An allocation failed.
+pub fn counterexample_comment(
+    alloc: Global,
+    found: &FoundTexts,
+    number: usize,
+    text: &[u8],
+) -> Result<Vec<u8>, AllocError>
+    ensures { IfOk result (λ out. out.items ≡ counterexample_comment (found_from found.now) number text.now) }
+{
+    let mut out = Vec::new(alloc);
+    push_counterexample(alloc, &mut out, found, number, text)?;
     Ok(out)
 }
 
