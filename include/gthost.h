@@ -475,7 +475,7 @@ static inline struct gthost_begun_copy gthost_copy_begin(struct gthost_domain *d
 }
 
 /*
- * Begin a copy between a page of another domain and memory of the caller that is none of its frames: `grant.ptr` is a
+ * Begin a copy between a page of another domain and memory of the caller outside its frames: `grant.ptr` is a
  * reference of the domain `grant.dom`. gthost_copy_in lets the program read `len` bytes at `places.from`, and
  * gthost_copy_out lets it write them at `places.to`. It must touch no other place: the other end is its memory. The
  * monitor decides these calls as copies whose other end is at offset 0 of the caller's frame 0, which each domain has. So

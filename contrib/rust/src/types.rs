@@ -82,8 +82,8 @@ pub struct Mapping {
 }
 
 /// An end of a copy to ask for: a reference of a domain, the number of one of the caller's own frames, or memory of the
-/// caller that is none of its frames. The place that is returned for memory means nothing: it is that of the caller's frame
-/// 0, which the record of the copy names too.
+/// caller outside its frames. Ignore the place that is returned for memory: it is that of the caller's frame 0, which the
+/// record of the copy names too.
 #[derive(Clone, Copy, Debug, PartialEq, Eq)]
 pub enum Side {
     Reference { dom: u32, gref: u32, off: u32 },

@@ -115,7 +115,7 @@ fn made<T: SearchWatch>(
 /// states that all searches may meet together. The expression of a claim may have the names of calls. A script for
 /// `play` that is printed is that of one of the choices.
 ///
-/// A choice in which a domain waits for ever is no script for `run`, and gives no text. If there are such choices, the
+/// `run` refuses a choice in which a domain waits for ever, so such a choice gives no text. If there are such choices, the
 /// last line of the output is a comment with their number.
 ///
 /// # Errors

@@ -164,27 +164,6 @@ fn unnamed(fault: NameFault) -> ClaimsFault
     }
 }
 
-// Answers a request with this expression, in which calls of the whole text may be named.
-fn made_named<T: SearchWatch>(
-    alloc: Global,
-    asked: &ExploreOptions,
-    choices: &Choices<'_>,
-    base: &RunScript,
-    whole: &str,
-    expression: &str,
-    watch: &mut T,
-) -> Result<ExploreOutput, ClaimsFault>
-    requires { request_expression asked.now.request ≡ Some expression.now }
-    ensures { (source : List ℕ) → AreChoicesOf source choices.now → whole.now ≡ whole_text source →
-        ReadsAsRun (whole_text source) (Ok (run_contents base.now)) →
-        MakesOfChoices source asked.now.request result }
-{
-    match numbered(alloc, whole, expression) {
-        Ok(text) => made_numbered(alloc, asked, choices, base, text.as_slice(), watch),
-        Err(fault) => Err(unnamed(fault)),
-    }
-}
-
 // Answers a request without an expression.
 fn made_plain<T: SearchWatch>(
     alloc: Global,
@@ -230,8 +209,11 @@ pub fn made_by<T: SearchWatch>(
         ReadsAsRun (whole_text source) (Ok (run_contents base.now)) →
         MakesOfChoices source asked.now.request result }
 {
-    match expression_of(asked.request) {
-        Some(text) => made_named(alloc, asked, choices, base, whole, text, watch),
-        None => made_plain(alloc, asked, choices, watch),
+    let Some(expression) = expression_of(asked.request) else {
+        return made_plain(alloc, asked, choices, watch);
+    };
+    match numbered(alloc, whole, expression) {
+        Ok(text) => made_numbered(alloc, asked, choices, base, text.as_slice(), watch),
+        Err(fault) => Err(unnamed(fault)),
     }
 }
