@@ -13,4 +13,4 @@ mod lines;
 mod numbering;
 
 pub use fault::NameFault;
-pub use numbering::numbered;
+pub use numbering::{calls_named, numbered};

@@ -5,7 +5,7 @@ ghost use Rattle.std.specs.List.{position, slice_split};
 ghost use Rattle.std.specs.Str.Lines.{lines as lines_in};
 ghost use Rattle.gt_call_names.specs.Naming.{HasRepeated, IsNumberingFault, IsExpressionNumbered, first_repeated};
 ghost use Rattle.gt_call_names.specs.Naming.{is_break, is_equals, is_field, lines_of_part};
-ghost use Rattle.gt_call_names.specs.Naming.{mark_after, with_line_numbers, part_numbered, parts_numbered, repeated};
+ghost use Rattle.gt_call_names.specs.Naming.{mark_after, numbers_named, with_line_numbers, part_numbered, parts_numbered, repeated};
 
 use crate::fault::NameFault;
 use crate::lines::numbers_named;
@@ -190,6 +190,17 @@ fn numbered_in(
 {
     let lines = text_lines(alloc, source)?;
     numbered_by(alloc, lines.as_slice(), expression)
+}
+
+/// Returns the numbers of the lines of a script whose calls have this name.
+///
+/// # Errors
+/// An allocation failed.
+pub fn calls_named(alloc: Global, source: &str, name: &[u8]) -> Result<Vec<usize>, AllocError>
+    ensures { IfOk result (λ numbers. numbers.items ≡ numbers_named name.now 1 (lines_in source.now)) }
+{
+    let lines = text_lines(alloc, source)?;
+    numbers_named(alloc, lines.as_slice(), name)
 }
 
 /// Returns an expression about a script with the numbers of lines in place of the names of their calls. A name is what

@@ -94,8 +94,12 @@ Options:
 EXPR is terms with ! (not), & (and), | (or) and brackets: WORD (an answer has
 it), LINE=ANSWER (the answer to this line of the script begins so), ID:ANSWER (an
 answer of this domain does). LINE may be a NAME: `do 1 revoke 0 as NAME`. A term
-that no answer can meet is refused. Several claims are decided by one search, and
-print a line each.
+that no answer can meet is refused. LINE<LINE, joined by & alone in a single
+--find or --never, is a run in which the first call is answered before the second
+begins. Several claims are decided by one search, and print a line each.
+
+A call `maybe ID CALL` of the script may be left out, and the list of a domain may
+end at a line `leave ID`.
 
 Exit status: 0 if each claim holds, TEXT is an output, or all were found; 1 if one
 does not hold, or TEXT is none of them; 2 if one is not decided, or TEXT has not

@@ -82,8 +82,11 @@ fn made_as<T: SearchWatch>(
     }
 }
 
-// Explores a script that was parsed.
-fn explore_script<W: Write, T: SearchWatch>(
+/// Answers a request as [`explore`] does, on the texts of a script that was parsed. `source` has its lines.
+///
+/// # Errors
+/// Those of [`explore`], but for faults of a script and for failed reads.
+pub fn explore_script<W: Write, T: SearchWatch>(
     alloc: Global,
     asked: &ExploreOptions,
     source: &[u8],

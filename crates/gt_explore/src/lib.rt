@@ -18,7 +18,7 @@ mod exploring;
 mod texts;
 
 pub use deciding::{ClaimTest, TextsTest, texts_enough};
-pub use exploring::{explore, explore_bytes};
+pub use exploring::{explore, explore_bytes, explore_script};
 pub use gt_explore_answers::{ExploreFormat, ExploreOptions, ExploreRequest, FoundTexts};
 pub use gt_explore_faults::{ExploreFault, TextsFault};
 pub use texts::{add_order, in_order, texts_found, texts_of, texts_within};

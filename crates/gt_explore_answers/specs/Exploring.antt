@@ -1,5 +1,5 @@
 -- The output of `explore` for a script.
-use Rattle.std.specs.Prelude.{◌≡◌, ◌+◌, ◌++◌, ◌&&◌, ℕ, Bool, true, false, List, [], ◌∷◌, All, length, map, Option, Some}
+use Rattle.std.specs.Prelude.{◌≡◌, ◌+◌, ◌++◌, ◌&&◌, ℕ, Bool, true, List, [], ◌∷◌, All, length, map, Option, Some}
 use Rattle.std.specs.Prelude.{◌⊎◌, None, Ok, Err, codes, if◌then◌else◌, is_some, nat_le, nat_lt, slice_get}
 use Rattle.std.specs.List.{flat_map, position}
 use Rattle.std.specs.Str.{bytes_eq}
@@ -41,12 +41,6 @@ pub record AreTextsOf (c : RunContents) (f : Found) : Type 0 where
   pub whole : f.whole ≡ true → (text : List ℕ) → MayGive c text → IsTextAmong text f.texts
   pub apart : AreDifferentTexts f.texts
   pub ascending : AreAscending f.texts
-
--- an action is a call, which has an answer
-abbrev pub is_call : RunAction → Bool
-is_call (Do call) = true
-is_call (Tell flag) = false
-is_call (Await flag) = false
 
 -- the kind of a call
 abbrev pub name_of_call : ScriptCall → CallName

@@ -5,12 +5,13 @@ use Rattle.std.specs.List.{flat_map}
 use Rattle.std.specs.Str.{bytes_eq}
 use Rattle.gt_types.specs.declared.DomId.{DomId}
 use Rattle.gt_script.specs.Lists.{RunTask}
+use Rattle.gt_script.specs.Preceding.{is_call}
 use Rattle.gt_script.specs.RunContents.{RunContents}
 use Rattle.gt_explore_verdict.specs.Forms.{may_begin}
 use Rattle.gt_explore_verdict.specs.Satisfying.{line_words, lines_in}
 use Rattle.gt_explore_faults.specs.declared.fault.TextFault.{TextFault}
 use Rattle.gt_explore_faults.specs.declared.fault.TextFault.TheVariants.{Audit, CarriageReturn, Cut, Json, Line}
-use Rattle.gt_explore_answers.specs.Exploring.{is_call, index_of_text}
+use Rattle.gt_explore_answers.specs.Exploring.{index_of_text}
 use Rattle.gt_explore_witness.specs.GivingAnswers.{begins_with}
 use Rattle.gt_explore_answers.specs.Outputs.{Found}
 use Rattle.gt_explore_answers.specs.declared.asking.ExploreRequest.{ExploreRequest}

@@ -1,11 +1,12 @@
 //! The expression of a claim about a script.
 ghost use Rattle.std.specs.Prelude.{◌≡◌, ◌++◌, IfErr, IfOk, OnOk, map};
 ghost use Rattle.std.specs.List.{flat_map};
+ghost use Rattle.gt_script.specs.Preceding.{is_call};
 ghost use Rattle.gt_script.specs.RunContents.{run_contents};
 ghost use Rattle.gt_explore_verdict.specs.Formulas.{formula_asked, operation_asked, satisfies};
 ghost use Rattle.gt_explore_answers.specs.Texts.{texts_of_orders};
 ghost use Rattle.gt_explore_answers.specs.Exploring.{AreAsked, AreConditions, IsExpressionFault, IsFaultAsked};
-ghost use Rattle.gt_explore_answers.specs.Exploring.{call_of_task, first_unplaced, is_call, name_of_call};
+ghost use Rattle.gt_explore_answers.specs.Exploring.{call_of_task, first_unplaced, name_of_call};
 
 use crate::asking::ExploreRequest;
 use gt_explore_search::FoundText;

@@ -146,6 +146,7 @@ IsClaimsFault source request (claims_faults.Explore fault) = IsExploreFault sour
 IsClaimsFault source request (claims_faults.Kind number) = ⊥
 IsClaimsFault source request (claims_faults.Term claim number fault) = ⊥
 IsClaimsFault source request (claims_faults.Repeated first second) = NamesTwo source request (first, second)
+IsClaimsFault source request (claims_faults.Precedence fault) = ⊥
 IsClaimsFault source request claims_faults.Astray = Unit {0}
 
 -- the request has no answer for a script with choices, there are too many of them, or an allocation failed

@@ -104,6 +104,7 @@ module _ (asked : ClaimsOptions) (input : List ℕ) where
   claims_script c claims (Err (claims_faults.Explore (Text line fault))) old new told are wrote = absurd wrote
   claims_script c claims (Err (claims_faults.Kind number)) old new told are wrote = absurd wrote
   claims_script c claims (Err (claims_faults.Repeated first second)) old new told are wrote = absurd wrote
+  claims_script c claims (Err (claims_faults.Precedence fault)) old new told are wrote = absurd wrote
   claims_script c claims (Err claims_faults.Astray) old new told are wrote = absurd wrote
 
   -- there is no script

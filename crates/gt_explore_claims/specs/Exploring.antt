@@ -93,6 +93,7 @@ NamedExplored asked input old new (Err (claims_faults.Explore fault)) =
 NamedExplored asked input old new (Err (claims_faults.Repeated first second)) =
     NamesTwice input asked.request (first, second) × Keeps old new
 NamedExplored asked input old new (Err claims_faults.Astray) = Keeps old new
+NamedExplored asked input old new (Err (claims_faults.Precedence fault)) = ⊥
 NamedExplored asked input old new (Err (claims_faults.Kind number)) = ⊥
 NamedExplored asked input old new (Err (claims_faults.Term claim number fault)) = ⊥
 

@@ -7,6 +7,8 @@ use Rattle.gt_explore_verdict.specs.declared.fault.ExpressionFault.{ExpressionFa
 use Rattle.gt_explore_verdict.specs.declared.fault.ExpressionFault.TheVariants as expression_faults
 use Rattle.gt_explore_faults.specs.declared.claims.ClaimsFault.{ClaimsFault}
 use Rattle.gt_explore_faults.specs.declared.claims.ClaimsFault.TheVariants as claims_faults
+use Rattle.gt_explore_faults.specs.declared.claims.PrecedenceFault.{PrecedenceFault}
+use Rattle.gt_explore_faults.specs.declared.claims.PrecedenceFault.TheVariants as precedence_faults
 use Rattle.gt_explore_faults.specs.declared.fault.ExploreFault.{ExploreFault}
 use Rattle.gt_explore_faults.specs.declared.fault.ExploreFault.TheVariants.{Play, Term, Text, Number, Unfound, Texts}
 use Rattle.gt_explore_faults.specs.declared.fault.TextFault.{TextFault}
@@ -43,6 +45,11 @@ expression_fault (expression_faults.Term number fault) = Term number fault
 abbrev pub claims_memory : ClaimsFault
 claims_memory = claims_faults.Explore (Play play_faults.Memory)
 
+abbrev pub precedence_fault_text : PrecedenceFault → List ℕ
+precedence_fault_text precedence_faults.Always = codes "an order of calls is for find and never"
+precedence_fault_text precedence_faults.Joined = codes "an order of calls is joined by & alone"
+precedence_fault_text precedence_faults.Call = codes "no such call in an order of calls"
+
 abbrev pub claims_fault_text : ClaimsFault → List ℕ
 claims_fault_text (claims_faults.Explore fault) = explore_fault_text fault
 claims_fault_text (claims_faults.Kind number) =
@@ -51,4 +58,5 @@ claims_fault_text (claims_faults.Term claim number fault) =
     codes "claim " ++ decimal claim ++ codes ": " ++ expression_fault_text (expression_faults.Term number fault)
 claims_fault_text (claims_faults.Repeated first second) =
     codes "the same name on lines " ++ decimal first ++ codes " and " ++ decimal second
+claims_fault_text (claims_faults.Precedence fault) = precedence_fault_text fault
 claims_fault_text claims_faults.Astray = codes "astray"

@@ -6,6 +6,34 @@ use std::alloc::AllocError;
 use std::error::Error;
 use std::fmt;
 
+/// Why a term such as `12<17`, which is an order of two calls, can't be a part of an expression.
+#[derive(Clone, Copy, Debug, PartialEq, Eq)]
+pub enum PrecedenceFault {
+    /// The claim is `always`. What holds of each text in that order is no claim about all texts.
+    Always,
+    /// The terms of the expression are not all joined by `&`, or an order comes after `!`.
+    Joined,
+    /// There is no call on the line of a side, and none with its name.
+    Call,
+}
+
+impl fmt::Display for PrecedenceFault {
+    ghost use Rattle.std.specs.Prelude.{Some};
+    ghost use Rattle.gt_explore_faults.specs.Faults.{precedence_fault_text};
+
+    ghost output = { λ fault. Some (precedence_fault_text fault) };
+
+    fn fmt<W: fmt::Write>(&self, f: &mut fmt::Formatter<W>) -> fmt::Result {
+        match self {
+            PrecedenceFault::Always => f.write_str("an order of calls is for find and never"),
+            PrecedenceFault::Joined => f.write_str("an order of calls is joined by & alone"),
+            PrecedenceFault::Call => f.write_str("no such call in an order of calls"),
+        }
+    }
+}
+
+impl Error for PrecedenceFault {}
+
 /// The fault that ended an exploration with claims. It prints as one line, without a line end.
 #[derive(Debug, Drop)]
 pub enum ClaimsFault {
@@ -26,6 +54,8 @@ pub enum ClaimsFault {
         first: usize,
         second: usize,
     },
+    /// A term that is an order of two calls can't be a part of the expression. Nothing was written.
+    Precedence(PrecedenceFault),
     /// An expression with the numbers of lines in place of names is not text. Nothing was written.
     Astray,
 }
@@ -53,6 +83,7 @@ impl fmt::Display for ClaimsFault {
             ClaimsFault::Repeated { first, second } => {
                 write!(f, "the same name on lines {first} and {second}")
             }
+            ClaimsFault::Precedence(fault) => write!(f, "{fault}"),
             ClaimsFault::Astray => f.write_str("astray"),
         }
     }

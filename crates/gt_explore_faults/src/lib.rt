@@ -12,5 +12,5 @@
 mod claims;
 mod fault;
 
-pub use claims::ClaimsFault;
+pub use claims::{ClaimsFault, PrecedenceFault};
 pub use fault::{ExploreFault, TextFault, TextsFault};

@@ -25,7 +25,7 @@ mod syntax;
 mod texts;
 mod waits;
 
-pub use blocks::{block_text, has_policy};
+pub use blocks::{block_text, has_policy, policy_block};
 pub use columns::column_of;
 pub use limits::limit_of;
 pub use misfit::fitting;

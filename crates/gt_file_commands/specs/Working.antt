@@ -13,7 +13,7 @@ use Rattle.gt_file_commands.specs.Prelude.{type_of, words, play_fault_text, clai
 use Rattle.gt_file_commands.specs.Prelude.{why_fault_text, breach_fault_text, dump_fault_text, read_word}
 use Rattle.gt_file_commands.specs.Prelude.{CheckKind, Failure, Outcome, ReportForm, Work, No, Unknown, Yes}
 use Rattle.gt_explore_choices.specs.Choices.{choices_fault_text}
-use Rattle.gt_flow_command.specs.Blocks.{FlowedAs}
+use Rattle.gt_policy_flow.specs.Blocks.{FlowedAs}
 use Rattle.gt_policy_flow.specs.Faults.{flow_fault_text}
 use Rattle.gt_policy_flow.specs.declared.asking.FlowQuestion.{FlowQuestion}
 use Rattle.gt_policy_flow.specs.declared.format.FlowFormat.{FlowFormat}

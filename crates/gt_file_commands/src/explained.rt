@@ -2,7 +2,7 @@
 ghost use Rattle.gt_text.specs.Streams.{OfInput};
 ghost use Rattle.gt_check_command.specs.Breaking.{CheckedNever};
 ghost use Rattle.gt_check_command.specs.Explaining.{Explained};
-ghost use Rattle.gt_flow_command.specs.Blocks.{FlowedAs};
+ghost use Rattle.gt_policy_flow.specs.Blocks.{FlowedAs};
 ghost use Rattle.gt_file_commands.specs.Formats.{CheckedAs, ListedAs, PlayedAs, WroteDumpAs};
 
 use crate::formats::{ReportSettings, check_as, entries_as, list_as, play_as};
@@ -10,8 +10,7 @@ use crate::reasons::{CopyingReader, Reasons};
 use gt_check_command::{BreachFault, NeverText, WhyFault, WhyRequest, check_never, why};
 use gt_command_line::Format;
 use gt_entries::{DumpFault, DumpOptions};
-use gt_flow_command::flow_as;
-use gt_policy_flow::{FlowFault, FlowQuestion};
+use gt_policy_flow::{FlowFault, FlowQuestion, flow_as};
 use gt_policy_list::ListingFault;
 use gt_script_runs::PlayFault;
 use std::alloc::Global;

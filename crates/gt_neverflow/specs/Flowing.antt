@@ -10,8 +10,8 @@ use Rattle.gt_policy.specs.Allowing.{Meaning}
 use Rattle.gt_policy.specs.declared.lined.LinedStatement.{LinedStatement}
 use Rattle.gt_policy_statements.specs.Members.{members_of}
 use Rattle.gt_policy_statements.specs.declared.members.Member.{Member}
-use Rattle.gt_policy_flow.specs.Asking.{relation_of}
-use Rattle.gt_policy_flow.specs.Steps.{type_name_in}
+use Rattle.gt_policy_pairs.specs.Listing.{pair_type_name}
+use Rattle.gt_policy_pairs.specs.Pairs.{pair_policy}
 use Rattle.gt_neverallow.specs.Breaking.{chosen_by, short_name}
 use Rattle.gt_neverallow.specs.declared.statement.Forbidden.{Forbidden}
 use Rattle.gt_neverallow.specs.declared.statement.Forbidden.TheVariants.{Flow, Grants}
@@ -68,8 +68,8 @@ forbidden_flows members ns types = flat_map (flows_of members ns types) types
 
 -- the names of the types of a path, as messages show them
 abbrev pub names_on : List Member → TypeId → List TypeId → List ℕ
-names_on members x [] = short_name (type_name_in members x)
-names_on members x (y ∷ path) = short_name (type_name_in members x) ++ codes " -> " ++ names_on members y path
+names_on members x [] = short_name (pair_type_name members x)
+names_on members x (y ∷ path) = short_name (pair_type_name members x) ++ codes " -> " ++ names_on members y path
 
 -- no type is trusted
 abbrev pub nobody : TypeId → Bool
@@ -89,7 +89,7 @@ pub data FlowsFound (may : FlowPolicy) (members : List Member) : List ForbiddenF
 abbrev pub AreFlowBreaches : Meaning → List LinedStatement → List NeverStatement → List FlowBreach → Type 0
 AreFlowBreaches m xs ns found =
     let members = members_of xs None in
-    FlowsFound (relation_of m) members (forbidden_flows members ns (types_numbered (length m.types))) found
+    FlowsFound (pair_policy m) members (forbidden_flows members ns (types_numbered (length m.types))) found
 
 -- the breaches by these flows were added
 abbrev pub AddsFlows : FlowPolicy → List Member → List ForbiddenFlow → List FlowBreach → List FlowBreach → Type 0

@@ -16,7 +16,7 @@ use gt_allow::AllowTable;
 use gt_flow::{ReachedTypes, search};
 use gt_neverallow::{Forbidden, NeverStatement, TypeChoice, is_chosen, push_short_name};
 use gt_policy::{LinedStatement, Policy, PolicyFault, PolicyFaultKind};
-use gt_policy_flow::name_in;
+use gt_policy_pairs::pair_type_name;
 use gt_policy_statements::{Member, members_of};
 use gt_text::push_text;
 use gt_types::{Allows, Memory, TypeId};
@@ -106,9 +106,9 @@ fn push_names(
     ensures { OnOk result (out.new.items ≡ out.old.items ++ names_on members.now from path.now) }
 {
     match path {
-        [] => push_short_name(out, name_in(members, from)),
+        [] => push_short_name(out, pair_type_name(members, from)),
         [next, rest @ ..] => {
-            push_short_name(out, name_in(members, from))?;
+            push_short_name(out, pair_type_name(members, from))?;
             push_text(out, " -> ")?;
             push_names(out, members, *next, rest)
         }

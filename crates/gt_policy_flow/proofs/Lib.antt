@@ -1,5 +1,6 @@
 pub mod Answered
-pub mod Asked
+pub mod Growing
+pub mod Lined
 pub mod Reported
 pub mod Meant
 pub mod Pairing

@@ -1,16 +1,17 @@
 -- A question about a policy text, and its answer.
 use Rattle.std.specs.Prelude.{◌≡◌, ◌+◌, ℕ, zero, suc, ◌==◌, ◌&&◌, Bool, true, false, List, [], ◌∷◌, ◌++◌, length}
 use Rattle.std.specs.Prelude.{Option, Some, None, is_some, if◌then◌else◌, Ok}
-use Rattle.std.specs.List.{flat_map, slice_get, slice_split}
+use Rattle.std.specs.List.{flat_map, slice_split}
 use Rattle.std.specs.Option.{option_map}
 use Rattle.gt_types.specs.declared.TypeId.{TypeId}
 use Rattle.gt_flow.specs.Flow.{FlowPolicy}
 use Rattle.gt_flow.specs.Accesses.{is_among}
-use Rattle.gt_policy.specs.Allowing.{Meaning, is_allowed}
+use Rattle.gt_policy.specs.Allowing.{Meaning}
 use Rattle.gt_policy.specs.Lined.{IsLined}
 use Rattle.gt_policy.specs.Whole.{ReadsAs}
 use Rattle.gt_policy.specs.declared.lined.LinedStatement.{LinedStatement}
-use Rattle.gt_policy_statements.specs.Members.{is_asked, members_of}
+use Rattle.gt_policy_pairs.specs.Pairs.{pair_policy, types_asked_of}
+use Rattle.gt_policy_statements.specs.Members.{members_of}
 use Rattle.gt_policy_statements.specs.declared.members.Member.{Member}
 use Rattle.gt_policy_flow.specs.Pairs.{AnswersAll}
 use Rattle.gt_policy_flow.specs.declared.asking.FlowAnswer.{FlowAnswer}
@@ -21,24 +22,6 @@ use Rattle.gt_policy_flow.specs.declared.format.FlowFormat.{FlowFormat}
 use Rattle.gt_policy_flow.specs.declared.pairs.PairForm.{PairForm}
 use Rattle.gt_policy_flow.specs.declared.pairs.PairForm.TheVariants as pair_forms
 
--- a type is asked for, by its number
-abbrev pub is_member_asked : Option Member → Option (List ℕ) → Bool
-is_member_asked None asked = false
-is_member_asked (Some member) asked = is_asked asked member.names
-
-abbrev pub asked_at : List Member → Option (List ℕ) → ℕ → Bool
-asked_at members asked id = is_member_asked (slice_get members id) asked
-
--- a type, if it is asked for
-abbrev pub id_if : Bool → ℕ → List TypeId
-id_if true id = record { 0 = id } ∷ []
-id_if false id = []
-
--- the types that are asked for, of this number of types
-unfoldable pub ids_asked : List Member → Option (List ℕ) → ℕ → List TypeId
-ids_asked members asked zero = []
-ids_asked members asked (suc n) = ids_asked members asked n ++ id_if (asked_at members asked n) n
-
 -- names that are joined by commas
 abbrev pub names_in : Option (List ℕ) → List (List ℕ)
 names_in None = []
@@ -46,14 +29,20 @@ names_in (Some text) = slice_split (λ b. b == 44) text
 
 -- the types of these names
 abbrev pub trusted_by : List Member → ℕ → List (List ℕ) → List TypeId
-trusted_by members count names = flat_map (λ n. ids_asked members (Some n) count) names
+trusted_by members count names = flat_map (λ n. types_asked_of members (Some n) count) names
 
 -- the place of the first of these names that is not that of some type
 abbrev pub unknown_place : List Member → ℕ → List (List ℕ) → Option ℕ
 unknown_place members count [] = None
 unknown_place members count (name ∷ names) =
-    if length (ids_asked members (Some name) count) == 0 then Some 0
+    if length (types_asked_of members (Some name) count) == 0 then Some 0
     else option_map (λ n. n + 1) (unknown_place members count names)
+
+-- the types of these names were added, up to the first name that is not that of some type, which has this place
+pub record Trusts (members : List Member) (count : ℕ) (names : List (List ℕ)) (found : Option ℕ)
+    (old new : List TypeId) : Type 0 where
+  pub place : found ≡ unknown_place members count names
+  pub ids : found ≡ None → new ≡ old ++ trusted_by members count names
 
 -- the form of the answers: for one source and one target that are asked for, for several pairs, or for what is reached
 abbrev pub form_of : Bool → ℕ → ℕ → PairForm
@@ -83,12 +72,20 @@ ReportsBy None zero targets Answered report = IsBare flow_answers.NoSource repor
 ReportsBy None (suc n) zero Answered report = IsBare flow_answers.NoTarget report
 ReportsBy None (suc n) (suc k) Answered report = Answered report
 
+-- the answer about these sources and targets, of which there may be none
+abbrev pub ReportsFor : FlowFormat → FlowPolicy → (TypeId → Bool) → List LinedStatement → List Member → FlowQuestion
+    → List TypeId → List TypeId → FlowReport → Type 0
+ReportsFor format may trusted xs members q sources targets report =
+    ReportsBy None (length sources) (length targets)
+    (Reports format may trusted xs members
+    (form_of (is_some q.source && is_some q.target) (length sources) (length targets)) sources targets) report
+
 -- the answer about the types that a question asks for, or that a name of it is not that of a type
 abbrev pub ReportsTypes : Option ℕ → FlowFormat → FlowPolicy → (TypeId → Bool) → ℕ → List LinedStatement → List Member
     → FlowQuestion → FlowReport → Type 0
 ReportsTypes unknown format may trusted count xs members q report =
-    let sources = ids_asked members (option_map (λ a. a.now) q.source) count in
-    let targets = ids_asked members (option_map (λ a. a.now) q.target) count in
+    let sources = types_asked_of members (option_map (λ a. a.now) q.source) count in
+    let targets = types_asked_of members (option_map (λ a. a.now) q.target) count in
     ReportsBy unknown (length sources) (length targets)
     (Reports format may trusted xs members
     (form_of (is_some q.source && is_some q.target) (length sources) (length targets)) sources targets) report
@@ -101,12 +98,8 @@ IsFlowReport may count xs q report =
     ReportsTypes (unknown_place members count names) q.format may (is_among (trusted_by members count names)) count xs
     members q report
 
--- what the types of a policy may do, by their numbers
-abbrev pub relation_of : Meaning → FlowPolicy
-relation_of m source target perm = is_allowed m source.0 target.0 perm
-
 -- the answer to a question about a text
 abbrev pub IsFlowOf : List ℕ → FlowQuestion → FlowReport → Type 0
 IsFlowOf text q report =
     (m : Meaning) × (xs : List LinedStatement) × ReadsAs text (Ok m) × IsLined text xs
-    × IsFlowReport (relation_of m) (length m.types) xs q report
+    × IsFlowReport (pair_policy m) (length m.types) xs q report

@@ -1,6 +1,6 @@
 -- The answers for pairs of types.
 use Rattle.std.specs.Prelude.{◌≡◌, ℕ, ◌==◌, ◌||◌, Bool, true, false, List, [], ◌∷◌, ◌++◌, length}
-use Rattle.std.specs.Prelude.{Option, Some, None, is_some, Result, Ok, Err}
+use Rattle.std.specs.Prelude.{Option, Some, None, is_some}
 use Rattle.gt_types.specs.declared.TypeId.{TypeId}
 use Rattle.gt_flow.specs.Flow.{FlowPolicy}
 use Rattle.gt_flow.specs.Paths.{HasPath}
@@ -57,19 +57,3 @@ module _ (format : FlowFormat) (may : FlowPolicy) (trusted : TypeId → Bool) (x
     more_sources : (source : TypeId) (sources : List TypeId) (text rest : List ℕ) (first others : Bool)
         → AnswersEach form source targets text first → AnswersAll form targets sources rest others
         → AnswersAll form targets (source ∷ sources) (text ++ rest) (first || others)
-
-  abbrev pub AppendsBlock : {E : Type 0} → PairForm → TypeId → TypeId → List ℕ → List ℕ → Result Bool E → Type 0
-  AppendsBlock form source target old new (Ok has) =
-      (text : List ℕ) × AnswersPair form source target text has × (new ≡ old ++ text)
-  AppendsBlock form source target old new (Err fault) = Unit {0}
-
-  abbrev pub AppendsTargets : {E : Type 0} → PairForm → TypeId → List TypeId → List ℕ → List ℕ → Result Bool E → Type 0
-  AppendsTargets form source targets old new (Ok has) =
-      (text : List ℕ) × AnswersEach form source targets text has × (new ≡ old ++ text)
-  AppendsTargets form source targets old new (Err fault) = Unit {0}
-
-  abbrev pub AppendsSources : {E : Type 0} → PairForm → List TypeId → List TypeId → List ℕ → List ℕ → Result Bool E
-      → Type 0
-  AppendsSources form sources targets old new (Ok has) =
-      (text : List ℕ) × AnswersAll form targets sources text has × (new ≡ old ++ text)
-  AppendsSources form sources targets old new (Err fault) = Unit {0}

@@ -9,16 +9,9 @@ use Rattle.gt_flow.specs.declared.accesses.Access.TheVariants as accesses
 use Rattle.gt_policy.specs.declared.lined.LinedStatement.{LinedStatement}
 use Rattle.gt_policy_statements.specs.Granting.{gives_one}
 use Rattle.gt_policy_statements.specs.declared.members.Member.{Member}
+use Rattle.gt_policy_pairs.specs.Listing.{pair_type_name}
 use Rattle.gt_policy_flow.specs.Format.{by_format, name_text}
 use Rattle.gt_policy_flow.specs.declared.format.FlowFormat.{FlowFormat}
-
--- the name of a type, by its number
-abbrev pub member_name : Option Member → List ℕ
-member_name None = []
-member_name (Some member) = member.name
-
-abbrev pub type_name_in : List Member → TypeId → List ℕ
-type_name_in members id = member_name (slice_get members id.0)
 
 -- the line of a statement, if there is one
 abbrev pub line_at : Option LinedStatement → ℕ
@@ -63,8 +56,8 @@ access_text format xs members x y (Some accesses.Store) =
 -- the names of two types
 abbrev pub type_pair_text : FlowFormat → List Member → TypeId → TypeId → List ℕ
 type_pair_text format members x y =
-    by_format format [] (codes "{\"source\":") ++ name_text format (type_name_in members x)
-    ++ by_format format (codes " -> ") (codes ",\"target\":") ++ name_text format (type_name_in members y)
+    by_format format [] (codes "{\"source\":") ++ name_text format (pair_type_name members x)
+    ++ by_format format (codes " -> ") (codes ",\"target\":") ++ name_text format (pair_type_name members y)
     ++ by_format format (codes "  ") (codes ",")
 
 -- a line of a path

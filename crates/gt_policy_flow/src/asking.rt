@@ -1,23 +1,23 @@
 //! Answers whether bytes of a type reach another one by a policy text.
-ghost use Rattle.std.specs.Prelude.{◌≡◌, ◌==◌, ◌&&◌, ◌++◌, ◌<◌, [], IfErr, IfOk, IfSome, None, Ok, Err, Some, is_some};
+ghost use Rattle.std.specs.Prelude.{◌≡◌, ◌&&◌, [], IfErr, IfOk, None, Ok, Err, Some, is_some};
 ghost use Rattle.std.specs.Prelude.{length, map};
-ghost use Rattle.std.specs.List.{slice_split};
 ghost use Rattle.std.specs.Option.{option_map};
 ghost use Rattle.gt_flow.specs.Accesses.{AreAmong, is_among};
 ghost use Rattle.gt_policy.specs.Kept.{may_of};
 ghost use Rattle.gt_policy.specs.Shown.{fault_shown, out_of_memory};
 ghost use Rattle.gt_policy.specs.Whole.{ReadsAs};
 ghost use Rattle.gt_policy.specs.declared.fault.TokenFault.{TokenFault};
-ghost use Rattle.gt_policy_statements.specs.Members.{is_asked, members_of};
-ghost use Rattle.gt_policy_flow.specs.Asking.{IsFlowOf, IsFlowReport, Reports, ReportsTypes, asked_at, form_of};
-ghost use Rattle.gt_policy_flow.specs.Asking.{ids_asked, names_in, trusted_by, unknown_place};
+ghost use Rattle.gt_policy_statements.specs.Members.{members_of};
+ghost use Rattle.gt_policy_flow.specs.Asking.{IsFlowOf, IsFlowReport, ReportsFor, ReportsTypes, form_of, names_in};
+ghost use Rattle.gt_policy_flow.specs.Asking.{Trusts};
 
-use crate::format::FlowFormat;
+use crate::format::{FlowFormat, FlowText};
 use crate::pairs::{PairForm, push_sources};
 use crate::steps::ReadPolicy;
 use gt_allow::AllowTable;
 use gt_policy::{LinedStatement, Policy, PolicyFault, PolicyFaultKind, statements_of};
-use gt_policy_statements::{Member, has_word, members_of};
+use gt_policy_pairs::types_asked_of;
+use gt_policy_statements::{Member, members_of};
 use gt_types::{Allows, TypeId};
 use std::alloc::{AllocError, Global};
 
@@ -33,7 +33,7 @@ pub struct FlowQuestion<'q> {
 }
 
 /// The answer of a policy to a question.
-#[derive(Clone, Copy, Debug, PartialEq, Eq)]
+#[derive(Clone, Copy)]
 pub enum FlowAnswer {
     /// There is a path from some source to some target.
     Path,
@@ -57,58 +57,12 @@ pub struct FlowReport {
     pub lines: Vec<u8>,
 }
 
-// Returns whether the type of this number is asked for.
-fn is_asked_at(members: &[Member], asked: Option<&[u8]>, id: u16) -> bool
-    ensures { result ≡ asked_at members.now (option_map (λ a. a.now) asked.entry) id }
-{
-    match (members.get(id as usize), asked) {
-        (None, _) => false,
-        (Some(_), None) => true,
-        (Some(member), Some(wanted)) => has_word(member.names.as_slice(), wanted),
-    }
-}
-
-// Returns the types that are asked for.
-fn ids_asked(
-    alloc: Global,
-    members: &[Member],
-    count: u16,
-    asked: Option<&[u8]>,
-) -> Result<Vec<TypeId>, AllocError>
-    ensures { IfOk result (λ ids. ids.items ≡ ids_asked members.now (option_map (λ a. a.now) asked.entry) count) }
-{
-    let mut ids = Vec::new(alloc);
-    'types: for id in 0..count {
-        if is_asked_at(members, asked, id) {
-            ids.push(TypeId(id))?;
-        }
-    }
-    Ok(ids)
-}
-
-// Returns the bytes of a name.
-fn bytes_of<'q>(name: Option<&'q str>) -> Option<&'q [u8]>
-    ensures { option_map (λ a. a.now) result ≡ option_map (λ a. a.now) name.entry }
-{
-    match name {
-        Some(name) => Some(name.as_bytes()),
-        None => None,
-    }
-}
-
-// Splits a text at each comma.
-fn pieces<'q>(alloc: Global, text: &'q [u8]) -> Result<Vec<&'q [u8]>, AllocError>
-    ensures { IfOk result (λ names. map (λ n. n.now) names.items ≡ slice_split (λ b. b == 44) text.entry.now) }
-{
-    text.split(|b| *b == b',').collect(alloc)
-}
-
 // Returns the names that are joined by commas.
-fn names_in<'q>(alloc: Global, text: Option<&'q str>) -> Result<Vec<&'q [u8]>, AllocError>
+fn names_in<'q>(alloc: Global, text: Option<&'q str>) -> Result<Vec<&'q str>, AllocError>
     ensures { IfOk result (λ names. map (λ n. n.now) names.items ≡ names_in (option_map (λ t. t.now) text.entry)) }
 {
     match text {
-        Some(text) => pieces(alloc, text.as_bytes()),
+        Some(text) => text.split(',').collect(alloc),
         None => Ok(Vec::new(alloc)),
     }
 }
@@ -119,27 +73,19 @@ fn push_trusted(
     trusted: &mut Vec<TypeId>,
     members: &[Member],
     count: u16,
-    names: &[&[u8]],
+    names: &[&str],
 ) -> Result<Option<usize>, AllocError>
-    ensures place { IfOk result (λ place. place ≡ unknown_place members.now count (map (λ n. n.now) names.now)) }
-    ensures within { IfOk result (λ place. IfSome place (λ n. n < length names.now)) }
-    ensures ids { IfOk result (λ place. place ≡ None → trusted.new.items
-        ≡ trusted.old.items ++ trusted_by members.now count (map (λ n. n.now) names.now)) }
+    ensures { IfOk result (λ place. Trusts members.now count (map (λ n. n.now) names.now) place trusted.old.items
+        trusted.new.items) }
 {
-    match names {
-        [] => Ok(None),
-        [name, rest @ ..] => {
-            let ids = ids_asked(alloc, members, count, Some(*name))?;
-            if ids.is_empty() {
-                return Ok(Some(0));
-            }
-            trusted.extend_from_slice(ids.as_slice())?;
-            match push_trusted(alloc, trusted, members, count, rest)? {
-                Some(place) => Ok(Some(place + 1)),
-                None => Ok(None),
-            }
+    'names: for (place, name) in names.iter().enumerate() {
+        let ids = types_asked_of(alloc, members, count, Some(*name))?;
+        if ids.is_empty() {
+            return Ok(Some(place));
         }
+        trusted.extend_from_slice(ids.as_slice())?;
     }
+    Ok(None)
 }
 
 // Returns the form of the answers.
@@ -155,37 +101,50 @@ fn form_of(question: &FlowQuestion, sources: &[TypeId], targets: &[TypeId]) -> P
     }
 }
 
-// Returns an answer without lines.
-fn bare(alloc: Global, answer: FlowAnswer) -> FlowReport
-    ensures answer { result.answer ≡ answer }
-    ensures lines { result.lines.items ≡ [] }
-{
-    FlowReport {
-        answer,
-        lines: Vec::new(alloc),
-    }
-}
-
-// Answers for these sources and targets.
+// Answers a question for these sources and targets.
 fn answered<P: Allows>(
     alloc: Global,
     read: &ReadPolicy<'_, '_, P>,
-    form: PairForm,
+    question: &FlowQuestion,
     sources: &[TypeId],
     targets: &[TypeId],
 ) -> Result<FlowReport, AllocError>
     requires { AreAmong read.now.count (P.may read.now.policy.now) }
-    ensures { IfOk result (λ report. Reports read.now.format (P.may read.now.policy.now) (is_among read.now.trusted.now)
-        read.now.statements.now read.now.members.now form sources.now targets.now report) }
+    ensures { IfOk result (λ report. ReportsFor read.now.format (P.may read.now.policy.now)
+        (is_among read.now.trusted.now) read.now.statements.now read.now.members.now question.now sources.now
+        targets.now report) }
 {
-    let mut lines = Vec::new(alloc);
-    let has_path = push_sources(alloc, &mut lines, read, form, sources, targets)?;
+    if sources.is_empty() {
+        return Ok(FlowReport {
+            answer: FlowAnswer::NoSource,
+            lines: Vec::new(alloc),
+        });
+    }
+    if targets.is_empty() {
+        return Ok(FlowReport {
+            answer: FlowAnswer::NoTarget,
+            lines: Vec::new(alloc),
+        });
+    }
+    let mut text = FlowText {
+        bytes: Vec::new(alloc),
+        is_whole: true,
+    };
+    let form = form_of(question, sources, targets);
+    let has_path = push_sources(alloc, &mut text, read, form, sources, targets);
+    let FlowText { bytes, is_whole } = text;
+    if !is_whole {
+        return Err(AllocError);
+    }
     let answer = if has_path {
         FlowAnswer::Path
     } else {
         FlowAnswer::NoPath
     };
-    Ok(FlowReport { answer, lines })
+    Ok(FlowReport {
+        answer,
+        lines: bytes,
+    })
 }
 
 // Answers a question whose trusted types are known.
@@ -199,16 +158,15 @@ fn report_of<P: Allows>(
         (is_among read.now.trusted.now) read.now.count read.now.statements.now read.now.members.now question.now
         report) }
 {
-    let sources = ids_asked(alloc, read.members, read.count, bytes_of(question.source))?;
-    let targets = ids_asked(alloc, read.members, read.count, bytes_of(question.target))?;
-    if sources.is_empty() {
-        return Ok(bare(alloc, FlowAnswer::NoSource));
-    }
-    if targets.is_empty() {
-        return Ok(bare(alloc, FlowAnswer::NoTarget));
-    }
-    let form = form_of(question, sources.as_slice(), targets.as_slice());
-    answered(alloc, read, form, sources.as_slice(), targets.as_slice())
+    let sources = types_asked_of(alloc, read.members, read.count, question.source)?;
+    let targets = types_asked_of(alloc, read.members, read.count, question.target)?;
+    answered(
+        alloc,
+        read,
+        question,
+        sources.as_slice(),
+        targets.as_slice(),
+    )
 }
 
 // Answers a question about a policy that was read.
@@ -222,13 +180,16 @@ fn report<P: Allows>(
     requires { AreAmong count (P.may policy.now) }
     ensures { IfOk result (λ report. IsFlowReport (P.may policy.now) count statements.now question.now report) }
 {
+    let names = names_in(alloc, question.trusted)?;
     let types = members_of(alloc, statements, None)?;
     let members = types.as_slice();
-    let names = names_in(alloc, question.trusted)?;
     let mut trusted = Vec::new(alloc);
     let unknown = push_trusted(alloc, &mut trusted, members, count, names.as_slice())?;
     if let Some(place) = unknown {
-        return Ok(bare(alloc, FlowAnswer::NoTrusted(place)));
+        return Ok(FlowReport {
+            answer: FlowAnswer::NoTrusted(place),
+            lines: Vec::new(alloc),
+        });
     }
     let read = ReadPolicy {
         policy,
@@ -239,16 +200,6 @@ fn report<P: Allows>(
         format: question.format,
     };
     report_of(alloc, &read, question)
-}
-
-// Returns the fault of a failed allocation.
-fn out_of_memory() -> PolicyFault
-    ensures { result ≡ out_of_memory }
-{
-    PolicyFault {
-        line: 0,
-        kind: PolicyFaultKind::Memory,
-    }
 }
 
 /// Answers whether bytes of the source reach the target by the policy of a text, and by which accesses.
@@ -264,7 +215,10 @@ pub fn flow(alloc: Global, text: &str, question: &FlowQuestion) -> Result<FlowRe
     let statements = statements_of(alloc, text)?;
     policy.allows_among_its_types();
     let Ok(table) = AllowTable::compile(alloc, &policy) else {
-        return Err(out_of_memory());
+        return Err(PolicyFault {
+            line: 0,
+            kind: PolicyFaultKind::Memory,
+        });
     };
     match report(
         alloc,
@@ -274,6 +228,9 @@ pub fn flow(alloc: Global, text: &str, question: &FlowQuestion) -> Result<FlowRe
         question,
     ) {
         Ok(report) => Ok(report),
-        Err(_) => Err(out_of_memory()),
+        Err(_) => Err(PolicyFault {
+            line: 0,
+            kind: PolicyFaultKind::Memory,
+        }),
     }
 }

@@ -1,10 +1,9 @@
 //! The error of an answer about flows.
 use gt_policy_list::ListingFault;
-use std::error::Error;
 use std::fmt;
 
 /// The error of a question about flows. It prints as one line, without a line feed.
-#[derive(Debug, Drop)]
+#[derive(Drop)]
 pub enum FlowFault {
     /// The text is not a policy or was not read, the lines were not written, or an allocation failed.
     Text(ListingFault),
@@ -27,7 +26,7 @@ impl fmt::Display for FlowFault {
 
     fn fmt<W: fmt::Write>(&self, f: &mut fmt::Formatter<W>) -> fmt::Result {
         match self {
-            FlowFault::Text(fault) => write!(f, "{fault}"),
+            FlowFault::Text(fault) => fmt::Display::fmt(fault, f),
             FlowFault::NoSource => f.write_str("the source is not a type of the policy"),
             FlowFault::NoTarget => f.write_str("the target is not a type of the policy"),
             FlowFault::NoTrusted(_) => f.write_str("a trusted type is not a type of the policy"),
@@ -35,5 +34,3 @@ impl fmt::Display for FlowFault {
         }
     }
 }
-
-impl Error for FlowFault {}

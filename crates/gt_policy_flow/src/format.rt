@@ -1,6 +1,6 @@
-//! The forms of an answer: text, and JSON Lines.
+//! The forms of an answer, text and JSON Lines, and the text that grows to it.
 ghost use Rattle.std.specs.Prelude.{◌≡◌, ◌++◌, OnOk};
-ghost use Rattle.gt_policy_flow.specs.Format.{by_format, name_text};
+ghost use Rattle.gt_policy_flow.specs.Format.{name_text};
 
 use gt_json::push_quoted;
 use gt_text::push_text;
@@ -13,19 +13,11 @@ pub enum FlowFormat {
     Json,
 }
 
-/// Appends the first of two marks as text, and the second as JSON.
-pub(crate) fn push_mark(
-    out: &mut Vec<u8>,
-    format: FlowFormat,
-    text: &str,
-    json: &str,
-) -> Result<(), AllocError>
-    ensures { OnOk result (out.new.items ≡ out.old.items ++ by_format format text.now json.now) }
-{
-    match format {
-        FlowFormat::Text => push_text(out, text),
-        FlowFormat::Json => push_text(out, json),
-    }
+/// A text that grows. After a failed allocation it is not whole, and what it has counts for nothing.
+#[derive(Drop)]
+pub(crate) struct FlowText {
+    pub bytes: Vec<u8>,
+    pub is_whole: bool,
 }
 
 /// Appends a name: as JSON it is a string.

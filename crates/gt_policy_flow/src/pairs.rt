@@ -1,16 +1,16 @@
 //! The answers for pairs of types: whether bytes of the one reach the other.
-ghost use Rattle.std.specs.Prelude.{◌≡◌, ◌++◌, OnOk};
-ghost use Rattle.std.specs.Option.{option_map};
+ghost use Rattle.std.specs.Prelude.{◌≡◌, None, Some};
 ghost use Rattle.gt_flow.specs.Accesses.{AreAmong, is_among};
 ghost use Rattle.gt_flow.specs.Paths.{IsSearched};
-ghost use Rattle.gt_policy_flow.specs.Pairs.{AppendsBlock, AppendsSources, AppendsTargets, pair_answer_text};
-ghost use Rattle.gt_policy_flow.specs.Pairs.{leaves_out};
+ghost use Rattle.gt_policy_flow.specs.Format.{TextGrows, GrowsBy};
+ghost use Rattle.gt_policy_flow.specs.Pairs.{AnswersAll, AnswersEach, AnswersPair, leaves_out, pair_answer_text};
 
-use crate::format::push_mark;
-use crate::steps::{ReadPolicy, push_accesses, push_pair, push_path};
+use crate::format::FlowText;
+use crate::lines::{FlowLine, push_parts};
+use crate::steps::{NO_PATH, PATH, ReadPolicy, push_path};
 use gt_flow::{ReachedTypes, search};
 use gt_types::{Allows, TypeId};
-use std::alloc::{AllocError, Global};
+use std::alloc::Global;
 
 /// What is printed for a pair of types.
 #[derive(Clone, Copy)]
@@ -30,33 +30,58 @@ struct SearchedSource<'t> {
     reached: &'t ReachedTypes,
 }
 
-// Appends the answer for a pair, by its path.
-fn push_block<P: Allows>(
-    out: &mut Vec<u8>,
+// Appends the answer for a pair without a path.
+fn push_none<P: Allows>(
+    out: &mut FlowText,
     read: &ReadPolicy<'_, '_, P>,
     form: PairForm,
     source: TypeId,
     target: TypeId,
-    path: Option<&[TypeId]>,
-) -> Result<(), AllocError>
-    ensures { OnOk result (out.new.items ≡ out.old.items ++ pair_answer_text read.now.format (P.may read.now.policy.now)
-        (is_among read.now.trusted.now) read.now.statements.now read.now.members.now form source target
-        (option_map (λ p. p.now) path.entry)) }
+)
+    ensures { TextGrows out.old out.new (pair_answer_text read.now.format (P.may read.now.policy.now)
+        (is_among read.now.trusted.now) read.now.statements.now read.now.members.now form source target None) }
 {
-    match (path, form) {
-        (None, PairForm::Reached) => Ok(()),
-        (None, _) => {
-            push_pair(out, read, source, target)?;
-            push_mark(out, read.format, "none\n", "\"accesses\":null}\n")
-        }
-        (Some(path), form) => {
-            push_pair(out, read, source, target)?;
-            push_accesses(out, read.format, path.len())?;
-            match form {
-                PairForm::Steps => push_path(out, read, source, path),
-                _ => Ok(()),
-            }
-        }
+    let line = FlowLine {
+        format: read.format,
+        members: read.members,
+        statements: read.statements,
+        source,
+        target,
+        accesses: 0,
+    };
+    match form {
+        PairForm::Steps => push_parts(out, &line, &NO_PATH),
+        PairForm::Pairs => push_parts(out, &line, &NO_PATH),
+        PairForm::Reached => {}
+    }
+}
+
+// Appends the answer for a pair with this path.
+fn push_found<P: Allows>(
+    out: &mut FlowText,
+    read: &ReadPolicy<'_, '_, P>,
+    form: PairForm,
+    source: TypeId,
+    target: TypeId,
+    path: &[TypeId],
+)
+    ensures { TextGrows out.old out.new (pair_answer_text read.now.format (P.may read.now.policy.now)
+        (is_among read.now.trusted.now) read.now.statements.now read.now.members.now form source target
+        (Some path.now)) }
+{
+    let line = FlowLine {
+        format: read.format,
+        members: read.members,
+        statements: read.statements,
+        source,
+        target,
+        accesses: path.len(),
+    };
+    push_parts(out, &line, &PATH);
+    match form {
+        PairForm::Steps => push_path(out, read, source, path),
+        PairForm::Pairs => {}
+        PairForm::Reached => {}
     }
 }
 
@@ -73,29 +98,32 @@ fn leaves_out(form: PairForm, source: TypeId, target: TypeId) -> bool
 // Appends the answer for a source and one target, and returns whether there is a path.
 fn push_target<P: Allows>(
     alloc: Global,
-    out: &mut Vec<u8>,
+    out: &mut FlowText,
     read: &ReadPolicy<'_, '_, P>,
     form: PairForm,
     source: &SearchedSource,
     target: TypeId,
-) -> Result<bool, AllocError>
+) -> bool
     requires { IsSearched (P.may read.now.policy.now) (is_among read.now.trusted.now) source.now.id
         source.now.reached.now }
-    ensures { AppendsBlock read.now.format (P.may read.now.policy.now) (is_among read.now.trusted.now)
-        read.now.statements.now read.now.members.now form source.now.id target out.old.items out.new.items
-        result }
+    ensures { GrowsBy (λ text. AnswersPair read.now.format (P.may read.now.policy.now) (is_among read.now.trusted.now)
+        read.now.statements.now read.now.members.now form source.now.id target text result) out.old out.new }
 {
     if leaves_out(form, source.id, target) {
-        return Ok(false);
+        return false;
     }
-    match source.reached.path_to(alloc, target)? {
-        Some(path) => {
-            push_block(out, read, form, source.id, target, Some(path.as_slice()))?;
-            Ok(true)
+    match source.reached.path_to(alloc, target) {
+        Ok(Some(path)) => {
+            push_found(out, read, form, source.id, target, path.as_slice());
+            true
         }
-        None => {
-            push_block(out, read, form, source.id, target, None)?;
-            Ok(false)
+        Ok(None) => {
+            push_none(out, read, form, source.id, target);
+            false
+        }
+        Err(_) => {
+            out.is_whole = false;
+            false
         }
     }
 }
@@ -103,24 +131,23 @@ fn push_target<P: Allows>(
 // Appends the answers for a source and these targets, and returns whether there is a path to one of them.
 fn push_targets<P: Allows>(
     alloc: Global,
-    out: &mut Vec<u8>,
+    out: &mut FlowText,
     read: &ReadPolicy<'_, '_, P>,
     form: PairForm,
     source: &SearchedSource,
     targets: &[TypeId],
-) -> Result<bool, AllocError>
+) -> bool
     requires { IsSearched (P.may read.now.policy.now) (is_among read.now.trusted.now) source.now.id
         source.now.reached.now }
-    ensures { AppendsTargets read.now.format (P.may read.now.policy.now) (is_among read.now.trusted.now)
-        read.now.statements.now read.now.members.now form source.now.id targets.now out.old.items
-        out.new.items result }
+    ensures { GrowsBy (λ text. AnswersEach read.now.format (P.may read.now.policy.now) (is_among read.now.trusted.now)
+        read.now.statements.now read.now.members.now form source.now.id targets.now text result) out.old out.new }
 {
     match targets {
-        [] => Ok(false),
+        [] => false,
         [target, rest @ ..] => {
-            let first = push_target(alloc, out, read, form, source, *target)?;
-            let others = push_targets(alloc, out, read, form, source, rest)?;
-            Ok(first || others)
+            let first = push_target(alloc, out, read, form, source, *target);
+            let others = push_targets(alloc, out, read, form, source, rest);
+            first || others
         }
     }
 }
@@ -129,28 +156,30 @@ fn push_targets<P: Allows>(
 // of the targets. Each source is searched from once.
 pub(crate) fn push_sources<P: Allows>(
     alloc: Global,
-    out: &mut Vec<u8>,
+    out: &mut FlowText,
     read: &ReadPolicy<'_, '_, P>,
     form: PairForm,
     sources: &[TypeId],
     targets: &[TypeId],
-) -> Result<bool, AllocError>
+) -> bool
     requires { AreAmong read.now.count (P.may read.now.policy.now) }
-    ensures { AppendsSources read.now.format (P.may read.now.policy.now) (is_among read.now.trusted.now)
-        read.now.statements.now read.now.members.now form sources.now targets.now out.old.items out.new.items
-        result }
+    ensures { GrowsBy (λ text. AnswersAll read.now.format (P.may read.now.policy.now) (is_among read.now.trusted.now)
+        read.now.statements.now read.now.members.now form targets.now sources.now text result) out.old out.new }
 {
     match sources {
-        [] => Ok(false),
+        [] => false,
         [id, rest @ ..] => {
-            let reached = search(alloc, read.policy, read.trusted, read.count, *id)?;
+            let Ok(reached) = search(alloc, read.policy, read.trusted, read.count, *id) else {
+                out.is_whole = false;
+                return false;
+            };
             let source = SearchedSource {
                 id: *id,
                 reached: &reached,
             };
-            let first = push_targets(alloc, out, read, form, &source, targets)?;
-            let others = push_sources(alloc, out, read, form, rest, targets)?;
-            Ok(first || others)
+            let first = push_targets(alloc, out, read, form, &source, targets);
+            let others = push_sources(alloc, out, read, form, rest, targets);
+            first || others
         }
     }
 }

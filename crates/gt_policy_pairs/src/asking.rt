@@ -67,8 +67,9 @@ fn is_type_asked(members: &[Member], asked: Option<&str>, id: u16) -> bool
     }
 }
 
-// Returns the types that are asked for.
-fn types_asked_of(
+/// Returns the numbers of the types that are asked for, of this number of types: those that have the name, or all if
+/// there is none.
+pub fn types_asked_of(
     alloc: Global,
     members: &[Member],
     count: u16,

@@ -14,4 +14,5 @@
 mod asking;
 mod listing;
 
-pub use asking::{PairsQuestion, PairsReport, pairs};
+pub use asking::{PairsQuestion, PairsReport, pairs, types_asked_of};
+pub use listing::pair_type_name;

@@ -80,8 +80,8 @@ pub(crate) fn allowed_pairs<P: Allows>(
     Ok(allowed)
 }
 
-// Returns the name of a type.
-fn pair_type_name<'t>(members: &'t [Member<'_>], id: TypeId) -> &'t str
+/// Returns the name of a type, by its number; nothing if there is no such type.
+pub fn pair_type_name<'t>(members: &'t [Member<'_>], id: TypeId) -> &'t str
     ensures { result.now ≡ pair_type_name members.entry.now id }
 {
     match members.get(id.0 as usize) {

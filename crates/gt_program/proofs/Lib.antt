@@ -1,5 +1,6 @@
 pub mod Chosen
 pub mod Obeyed
+mod OneExplored
 mod OneRun
 mod RelayLemmas
 pub mod RunLemmas

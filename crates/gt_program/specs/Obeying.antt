@@ -1,6 +1,6 @@
 -- The result of a command line: the output, and the exit status.
 use Rattle.std.specs.Prelude.{◌≡◌, ◌⊎◌, ◌≤◌, ℕ, Bool, true, false, List, [], ◌∷◌, Option, Some, None, Result, Ok, Err}
-use Rattle.std.specs.Prelude.{is_some, length}
+use Rattle.std.specs.Prelude.{if◌then◌else◌, is_some, length, take}
 use Rattle.std.specs.Borrow.{Bor}
 use Rattle.std.specs.Str.{IsUtf8}
 use Rattle.std.specs.Str.Lines.{lines as lines_in}
@@ -21,8 +21,13 @@ use Rattle.gt_explore_choices.specs.declared.fault.ChoicesFault.TheVariants.{Una
 use Rattle.gt_explore_choices.specs.declared.fault.ChoicesFault.TheVariants as choices_faults
 use Rattle.gt_explore_faults.specs.declared.claims.ClaimsFault.TheVariants as claims_faults
 use Rattle.gt_explore_faults.specs.declared.fault.ExploreFault.TheVariants as explore_faults
+use Rattle.gt_explore_precedence.specs.Exploring.{PrecedingExplored}
+use Rattle.gt_explore_precedence.specs.Terms.{has_precedence}
+use Rattle.gt_explore_precedence.specs.declared.exploring.PrecedenceOptions.{PrecedenceOptions}
 use Rattle.gt_script_runs.specs.Faults.{read_fault}
 use Rattle.gt_text.specs.declared.fault.ReadFault.{ReadFault}
+use Rattle.gt_text.specs.Texts.{IsBadAt}
+use Rattle.gt_text.specs.declared.streams.TheConstants.{READ_LIMIT}
 use Rattle.gt_types.specs.declared.limits.TheConstants.{LONGEST_TEXT}
 use Rattle.gt_program.specs.Prelude.{ExploreRequest, Verdict, Holds, Fails, Undecided, Outcome, No, Unknown, Yes}
 use Rattle.gt_file_commands.specs.Flows.{flow_format}
@@ -91,12 +96,41 @@ SummaryExplored asked input old new (Err (claims_faults.Explore fault)) =
 SummaryExplored asked input old new (Err (claims_faults.Kind number)) = ⊥
 SummaryExplored asked input old new (Err (claims_faults.Term claim number fault)) = ⊥
 SummaryExplored asked input old new (Err (claims_faults.Repeated first second)) = ⊥
+SummaryExplored asked input old new (Err (claims_faults.Precedence fault)) = ⊥
 SummaryExplored asked input old new (Err claims_faults.Astray) = ⊥
+
+-- the claim of a request whose expression has terms of order
+abbrev pub precedence_in : ℕ → ExploreFormat → ExploreRequest → Option PrecedenceOptions
+precedence_in states format (explore_requests.Decide claim expression) =
+    if has_precedence expression.now
+    then Some (record { claim = claim; expression = expression; states = states; format = format })
+    else None
+precedence_in states format explore_requests.Texts = None
+precedence_in states format (explore_requests.Has given) = None
+precedence_in states format (explore_requests.Witness number) = None
+precedence_in states format explore_requests.Witnesses = None
+precedence_in states format (explore_requests.Trace number) = None
+precedence_in states format (explore_requests.Diagram number) = None
+
+abbrev pub precedence_asked : ExploreOptions → Option PrecedenceOptions
+precedence_asked asked = precedence_in asked.states asked.format asked.request
+
+-- what was written for one request: for a claim with terms of order, what is written about the runs in that order; bytes
+-- that are no text are no script either
+abbrev pub OneBy : Option PrecedenceOptions → ExploreOptions → List ℕ → Option (List ℕ) → Option (List ℕ)
+    → Result Verdict ClaimsFault → Type 0
+OneBy None asked input old new r = NamedExplored asked input old new r
+OneBy (Some claim) asked input old new r =
+    PrecedingExplored input claim old new r
+    ⊎ (((line : ℕ) × IsBadAt (take READ_LIMIT input) line) × NamedExplored asked input old new r)
+
+abbrev pub OneExplored : ExploreOptions → List ℕ → Option (List ℕ) → Option (List ℕ) → Result Verdict ClaimsFault → Type 0
+OneExplored asked input old new r = OneBy (precedence_asked asked) asked input old new r
 
 -- what was written for what is asked: one request, in which calls may be named, several claims, or a summary
 abbrev pub AskedExplored : SearchAsked → List ℕ → Option (List ℕ) → Option (List ℕ) → Result Verdict ClaimsFault
     → Type 0
-AskedExplored (One asked) = NamedExplored asked
+AskedExplored (One asked) = OneExplored asked
 AskedExplored (Several asked) = ClaimsExplored asked
 AskedExplored (Together asked) = SummaryExplored asked
 

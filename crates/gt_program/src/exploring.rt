@@ -9,7 +9,7 @@ ghost use Rattle.gt_file_commands.specs.Working.{known_input, DoesOnFile, Works}
 ghost use Rattle.gt_file_commands.specs.declared.outcome.Outcome.TheVariants.{Unknown};
 ghost use Rattle.gt_program.specs.Obeying.{explore_format, verdict_outcome, AskedExplored, FindsText, IsAskedFor};
 ghost use Rattle.gt_program.specs.Obeying.{Searches, SearchesPlain, Seeks, unread_failure};
-ghost use Rattle.gt_program.specs.Obeying.{SeeksText, SummaryExplored};
+ghost use Rattle.gt_program.specs.Obeying.{OneExplored, SeeksText, SummaryExplored, precedence_asked};
 
 use crate::choosing::{search_choices, source_with_choice};
 use crate::progress::Progress;
@@ -18,6 +18,7 @@ use gt_explore_answers::{ExploreFormat, ExploreOptions, ExploreRequest};
 use gt_explore_choices::ChoicesFault;
 use gt_explore_claims::{ClaimsOptions, explore_claims, explore_named};
 use gt_explore_faults::{ClaimsFault, ExploreFault};
+use gt_explore_precedence::{PrecedenceOptions, explore_preceding, has_precedence};
 use gt_explore_search::SearchWatch;
 use gt_explore_summary::{SummaryOptions, SummaryRequest, summarize};
 use gt_explore_verdict::Verdict;
@@ -26,7 +27,7 @@ use gt_file_commands::{
     read_given,
 };
 use gt_script_runs::PlayFault;
-use gt_text::{ReadFault, read_text};
+use gt_text::{ReadFault, read_text, text_of};
 use std::alloc::Global;
 use std::io::{Read, Write};
 use std::time::Clock;
@@ -117,6 +118,44 @@ fn summary_asked<W: Write, X: SearchWatch>(
     }
 }
 
+// Returns the claim of a request whose expression has terms of order.
+fn precedence_asked<'w>(asked: &ExploreOptions<'w>) -> Option<PrecedenceOptions<'w>>
+    ensures { result ≡ precedence_asked asked.now }
+{
+    let ExploreRequest::Decide { claim, expression } = asked.request else {
+        return None;
+    };
+    if !has_precedence(expression.as_bytes()) {
+        return None;
+    }
+    Some(PrecedenceOptions {
+        claim,
+        expression,
+        states: asked.states,
+        format: asked.format,
+    })
+}
+
+// Answers one request on the texts that the script in these bytes may give.
+fn explore_one<W: Write, X: SearchWatch>(
+    alloc: Global,
+    asked: &ExploreOptions,
+    input: &[u8],
+    out: &mut W,
+    watch: &mut X,
+) -> Result<Verdict, ClaimsFault>
+    ensures { (all : List ℕ) → input.now ≡ take READ_LIMIT all →
+        OneExplored asked.now all (W.contents out.old) (W.contents out.new) result }
+{
+    let Some(claim) = precedence_asked(asked) else {
+        return explore_named(alloc, asked, input, out, watch);
+    };
+    match text_of(input) {
+        Ok(source) => explore_preceding(alloc, &claim, source, out, watch),
+        Err(_) => explore_named(alloc, asked, input, out, watch),
+    }
+}
+
 // Answers what is asked on the texts that the script in these bytes may give.
 fn explore_asked<W: Write, X: SearchWatch>(
     alloc: Global,
@@ -129,7 +168,7 @@ fn explore_asked<W: Write, X: SearchWatch>(
         AskedExplored asked.now all (W.contents out.old) (W.contents out.new) result }
 {
     match asked {
-        SearchAsked::One(options) => explore_named(alloc, options, input, out, watch),
+        SearchAsked::One(options) => explore_one(alloc, options, input, out, watch),
         SearchAsked::Several(options) => explore_claims(alloc, options, input, out, watch),
         SearchAsked::Together(options) => summary_asked(alloc, options, input, out, watch),
     }

@@ -3,6 +3,7 @@ pub mod FaultLemmas
 pub mod FlagLemmas
 pub mod LawLemmas
 pub mod OneLemmas
+pub mod PrecedingLemmas
 pub mod RoundLemmas
 pub mod RunLemmas
 pub mod RunOne

@@ -5,6 +5,7 @@ pub mod Flags
 pub mod Laws
 pub mod Lists
 pub mod Outcomes
+pub mod Preceding
 pub mod Prelude
 pub mod Rounds
 pub mod RunContents

@@ -1,6 +1,6 @@
 //! The policy block of a script: its lines, and its policy.
 ghost use Rattle.std.specs.Prelude.{◌≡◌, ◌+◌, ◌<◌, ◌^◌, ℕ, List, IfOk, IfSome, map, length, string_bytes};
-ghost use Rattle.gt_script.specs.Blocks.{is_just as says_just, opening as opening_in, closing as closing_in};
+ghost use Rattle.gt_script.specs.Blocks.{closing, is_just as says_just, opening};
 ghost use Rattle.gt_script.specs.Blocks.{block_text as text_in, IsPolicyOf};
 
 use crate::faults::ScriptError;
@@ -17,9 +17,12 @@ fn is_just(words: &[&[u8]], word: &str) -> bool
     }
 }
 
-/// Returns the index of the line `policy`, if it is the first line with words.
-pub fn opening(alloc: Global, lines: &[&str]) -> Result<Option<usize>, AllocError>
-    ensures opens { IfOk result (λ place. place ≡ opening_in (map (λ line. line.now) lines.now)) }
+/// Returns the index of the line `policy` that opens the policy block, if it is the first line with words.
+///
+/// # Errors
+/// An allocation failed.
+pub fn block_opening(alloc: Global, lines: &[&str]) -> Result<Option<usize>, AllocError>
+    ensures opens { IfOk result (λ place. place ≡ opening (map (λ line. line.now) lines.now)) }
     ensures within { IfOk result (λ place. IfSome place (λ i. i < length lines.now)) }
 {
     'lines: for (i, line) in lines.iter().enumerate() {
@@ -32,9 +35,12 @@ pub fn opening(alloc: Global, lines: &[&str]) -> Result<Option<usize>, AllocErro
     Ok(None)
 }
 
-/// Returns the index of the first line `end`.
-pub fn closing(alloc: Global, lines: &[&str]) -> Result<Option<usize>, AllocError>
-    ensures closes { IfOk result (λ place. place ≡ closing_in (map (λ line. line.now) lines.now)) }
+/// Returns the index of the first line `end`, which closes the policy block.
+///
+/// # Errors
+/// An allocation failed.
+pub fn block_closing(alloc: Global, lines: &[&str]) -> Result<Option<usize>, AllocError>
+    ensures closes { IfOk result (λ place. place ≡ closing (map (λ line. line.now) lines.now)) }
     ensures within { IfOk result (λ place. IfSome place (λ i. i < length lines.now)) }
 {
     'lines: for (i, line) in lines.iter().enumerate() {

@@ -9,7 +9,7 @@ ghost use Rattle.gt_script.specs.Contents.{contents_of};
 ghost use Rattle.gt_script.specs.Outcomes.{AnswersScript};
 ghost use Rattle.gt_script.specs.Laws.{IsScriptFor, IsScriptOf, StandsFor, ErrorStands, IsUnread};
 
-use crate::blocks::{closing, opening, read_policy};
+use crate::blocks::{block_closing, block_opening, read_policy};
 use crate::command::ScriptCommand;
 use crate::faults::{ScriptError, ScriptFault, ScriptFaultKind};
 use crate::script::Script;
@@ -31,7 +31,7 @@ fn of_block<'a>(
     ensures { let said = map (λ line. line.now) lines.now in
         AnswersScript result (BlockReads command count first said (closing_in said)) }
 {
-    let Some(end) = closing(alloc, lines)? else {
+    let Some(end) = block_closing(alloc, lines)? else {
         return Err(ScriptError::Fault(ScriptFault {
             line: count + 1,
             kind: ScriptFaultKind::Syntax,
@@ -54,7 +54,7 @@ fn of_lines<'a>(
     ensures { let said = map (λ line. line.now) lines.now in
         AnswersScript result (LinesRead command said (opening_in said)) }
 {
-    match opening(alloc, lines)? {
+    match block_opening(alloc, lines)? {
         Some(place) => of_block(alloc, command, lines.len(), place + 1, &lines[place + 1..]),
         None => Script::new(alloc, command).with_rest(alloc, 0, lines.len(), lines),
     }

@@ -6,12 +6,15 @@ ghost use Rattle.gt_script.specs.Contents.{contents_of};
 ghost use Rattle.gt_script.specs.RunScripts.{CanConfigure, ContentsReadAs, ReadsAsRun, RunAnswers, list_of as list_in};
 ghost use Rattle.gt_script.specs.RunScripts.{ComeToEnd, IsStuckError};
 ghost use Rattle.gt_script.specs.Flags.{flag_names_of};
+ghost use Rattle.gt_script.specs.Preceding.{preceding};
+ghost use Rattle.gt_script.specs.RunContents.{run_contents};
 ghost use Rattle.gt_script.specs.Tasks.{tasks_numbered};
 ghost use Rattle.gt_script.specs.Stuck.{AreNumbered};
 
 use crate::command::ScriptCommand;
 use crate::faults::{ScriptError, ScriptFault, ScriptFaultKind};
 use crate::parsing::parse_for;
+use crate::precedence::Precedence;
 use crate::script::Script;
 use crate::stuck::stuck_line;
 use crate::tasks::{NamedRunTask, RunTask, tasks_for};
@@ -72,6 +75,30 @@ impl<'a> RunScript<'a> {
             }
         }
         Ok(list)
+    }
+
+    /// Returns the script whose runs are those of this one in which the call of one line precedes that of another: with
+    /// one more flag, which is raised behind the call of the first line, and awaited before that of the second. A line
+    /// without a call precedes nothing, and nothing precedes it.
+    ///
+    /// # Errors
+    /// An allocation failed, or there are 2^64 - 1 flags.
+    pub fn preceding(self, alloc: Global, lines: Precedence) -> Result<RunScript<'a>, AllocError>
+        ensures contents { IfOk result (λ s. run_contents s ≡ preceding lines (run_contents self.entry)) }
+        ensures head { IfOk result (λ s. s.head ≡ self.entry.head) }
+        ensures numbered { AreNumbered self.entry.flags self.entry.tasks →
+            IfOk result (λ s. AreNumbered s.flags s.tasks) }
+    {
+        let RunScript { head, tasks, flags } = self;
+        let Some(count) = flags.checked_add(1) else {
+            return Err(AllocError);
+        };
+        let tasks = lines.tasks_with(alloc, flags, tasks)?;
+        Ok(RunScript {
+            head,
+            tasks,
+            flags: count,
+        })
     }
 }
 

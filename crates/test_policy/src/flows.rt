@@ -17,13 +17,24 @@ fn chain(alloc: Global, types: usize) -> Result<String, AllocError> {
     Ok(text)
 }
 
-// Returns the answer, and the number of lines, for two types of a policy.
+// Returns an answer in words.
+fn words_of(answer: FlowAnswer) -> &'static str {
+    match answer {
+        FlowAnswer::Path => "path",
+        FlowAnswer::NoPath => "no path",
+        FlowAnswer::NoSource => "no source",
+        FlowAnswer::NoTarget => "no target",
+        FlowAnswer::NoTrusted(_) => "no trusted type",
+    }
+}
+
+// Returns the answer in words, and the number of lines, for two types of a policy.
 fn asked_of<'a>(
     alloc: Global,
     text: &'a str,
     source: &'a str,
     target: &'a str,
-) -> Option<(FlowAnswer, usize)> {
+) -> Option<(&'static str, usize)> {
     let question = FlowQuestion {
         source: Some(source),
         target: Some(target),
@@ -32,7 +43,7 @@ fn asked_of<'a>(
     };
     match flow(alloc, text, &question) {
         Ok(report) => Some((
-            report.answer,
+            words_of(report.answer),
             report.lines.iter().filter(|byte| **byte == b'\n').count(),
         )),
         Err(_) => None,
@@ -45,7 +56,7 @@ fn asked(
     types: usize,
     source: usize,
     target: usize,
-) -> Result<Option<(FlowAnswer, usize)>, AllocError> {
+) -> Result<Option<(&'static str, usize)>, AllocError> {
     let text = chain(alloc, types)?;
     let source = format!(in alloc; "t{source}")?;
     let target = format!(in alloc; "t{target}")?;
@@ -57,9 +68,9 @@ fn a_path_is_as_long_as_its_chain(rt: HostRuntime) {
     for types in [2, 3, 17, 256] {
         let last = types - 1;
         let forth = asked(rt.alloc(), types, 0, last);
-        same(&rt, &forth, &Ok(Some((FlowAnswer::Path, types))));
+        same(&rt, &forth, &Ok(Some(("path", types))));
         let back = asked(rt.alloc(), types, last, 0);
-        same(&rt, &back, &Ok(Some((FlowAnswer::NoPath, 1))));
+        same(&rt, &back, &Ok(Some(("no path", 1))));
     }
 }
 
@@ -68,11 +79,11 @@ fn a_type_that_is_not_there_has_no_answer(rt: HostRuntime) {
     same(
         &rt,
         &asked(rt.alloc(), 2, 2, 0),
-        &Ok(Some((FlowAnswer::NoSource, 0))),
+        &Ok(Some(("no source", 0))),
     );
     same(
         &rt,
         &asked(rt.alloc(), 2, 0, 2),
-        &Ok(Some((FlowAnswer::NoTarget, 0))),
+        &Ok(Some(("no target", 0))),
     );
 }

@@ -238,7 +238,10 @@ fn claims_reason(
 ) -> Result<Vec<u8>, AllocError> {
     match fault {
         ClaimsFault::Explore(fault) => explore_reason(alloc, file, is_line, input, fault),
-        ClaimsFault::Kind(_) | ClaimsFault::Term { .. } | ClaimsFault::Repeated { .. } => {
+        ClaimsFault::Kind(_)
+        | ClaimsFault::Term { .. }
+        | ClaimsFault::Repeated { .. }
+        | ClaimsFault::Precedence(_) => {
             let words = format!(in alloc; "{fault}")?;
             words_reason(alloc, file, words.as_str())
         }

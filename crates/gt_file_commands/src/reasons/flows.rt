@@ -1,8 +1,7 @@
 //! The reasons for which a question about flows was not answered.
 use super::collecting::{listing_reason, push_no_type};
 use super::copying::KeptInput;
-use gt_fault_reasons::push_read_reason;
-use gt_flow_command::policy_block;
+use gt_fault_reasons::{policy_block, push_read_reason};
 use gt_policy_flow::{FlowFault, FlowQuestion};
 use gt_policy_list::ListingFault;
 use gt_policy_reasons::push_policy_reason;
@@ -10,7 +9,7 @@ use gt_text::text_of;
 use std::alloc::{AllocError, Global};
 
 // Returns the policy block of the script that was read, if the question was about that of a script.
-fn block_asked(alloc: Global, script: bool, bytes: &[u8]) -> Result<Option<Vec<u8>>, AllocError> {
+fn block_asked(alloc: Global, script: bool, bytes: &[u8]) -> Result<Option<String>, AllocError> {
     match text_of(bytes) {
         Ok(text) if script => policy_block(alloc, text),
         _ => Ok(None),
@@ -41,7 +40,7 @@ pub(crate) fn flow_reason(
     let bytes = input.bytes().unwrap_or(&[]);
     let block = block_asked(alloc, script, bytes)?;
     let policy = match &block {
-        Some(block) => block.as_slice(),
+        Some(block) => block.as_bytes(),
         None => bytes,
     };
     match fault {

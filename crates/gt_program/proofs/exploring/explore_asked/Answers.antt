@@ -5,8 +5,8 @@ use Rattle.gt_program.proofs.exploring.explore_asked.Goals as goal
 
 pub returns-in-One : goal.returns-in-One
 returns-in-One g c = λ all e.
-    subst (λ (a : SearchAsked). AskedExplored a all (g.W.Write.contents c.args.out.now) (g.W.Write.contents c.explore_named.new.writer) c.explore_named.result) (sym c.in-One.is)
-    (c.explore_named.ensures all e)
+    subst (λ (a : SearchAsked). AskedExplored a all (g.W.Write.contents c.args.out.now) (g.W.Write.contents c.explore_one.new.out) c.explore_one.result) (sym c.in-One.is)
+    (c.explore_one.ensures all e)
 
 pub returns-in-Several : goal.returns-in-Several
 returns-in-Several g c = λ all e.

@@ -1,0 +1,14 @@
+use Rattle.std.proofs.Common.{rules, tests}
+use Rattle.std.proofs.lemmas.Iterator.Consumers.{map_from_collect, YieldsList-from_filter, YieldsList-at}
+use Rattle.std.proofs.lemmas.Iterator.Splits.{YieldsList-from_slice_split}
+use Rattle.gt_explore_precedence.specs.Pairs.{is_side_break, is_nonempty_side}
+use Rattle.gt_explore_precedence.proofs.pairs.side_words.Goals as goal
+
+pub returns : goal.returns
+returns c =
+    map_from_collect _ c.collect.ensures.ran
+    (YieldsList-from_filter _ is_nonempty_side
+    (YieldsList-at c.filter.ensures.source
+    (YieldsList-from_slice_split _ is_side_break c.args.side.now c.split.ensures.rest c.split.ensures.done
+    c.split.ensures.closure (λ x r q k. search (rules, tests))))
+    c.filter.ensures.closure (λ x r q k. search (rules, tests)))

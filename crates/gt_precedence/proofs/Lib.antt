@@ -1,0 +1,11 @@
+pub mod Lists
+pub mod Happenings
+pub mod Following
+pub mod Tasks
+pub mod Orders
+pub mod Moments
+pub mod Sound
+pub mod Complete
+pub mod Places
+pub mod Several
+pub mod Parsed
