@@ -127,12 +127,13 @@ class Precedence(Draws):
             self.want(done.stdout.startswith(b"holds\n"), f"--never '{expression}' prints otherwise")
             return
         said = done.stdout.decode().splitlines()
-        self.want(said[0].startswith("# does not hold: text 1 of "), f"--never '{expression}' begins with {said[0]}")
+        begins = re.fullmatch(r"# does not hold: text \d+ of \d+", said[0])
+        self.want(begins is not None, f"--never '{expression}' begins with {said[0]}")
         shown = "".join(line[2:] + "\n" for line in said[1:] if re.match(r"# \d+ \d ", line))
         self.want(shown == wanted[0], f"--never '{expression}' shows another text")
-        begins = {int(line.rsplit(" ", 1)[1]): n + 1 for n, line in enumerate(said) if "  # line " in line}
-        answers, _ = self.played(said[: begins[b + 1] - 1])
-        self.want(begins[a + 1] in answers, f"--never '{expression}': line {a + 1} has no answer when line {b + 1} begins")
+        placed = {int(line.rsplit(" ", 1)[1]): n + 1 for n, line in enumerate(said) if "  # line " in line}
+        answers, _ = self.played(said[: placed[b + 1] - 1])
+        self.want(placed[a + 1] in answers, f"--never '{expression}': line {a + 1} has no answer when line {b + 1} begins")
         self.seen["counterexamples"] += 1
 
 

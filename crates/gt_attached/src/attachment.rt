@@ -342,6 +342,7 @@ impl<P: Allows + Drop> AttachedDomain<P> {
 
     /// Ends the copy that the domain is in: releases its pins, the last one first. The domain must be in a copy. Returns
     /// the control words that this left in the entries that the copy named.
+    #[inline(always)]
     pub fn copy_end(&mut self) -> CopyWords
         requires copying { IsSome self.old.copying }
         ensures ends { EndsAccess self.old self.new }

@@ -139,13 +139,22 @@ fn store_no_copy(answer: &mut EncodedAnswer)
 
 #[cold]
 #[inline(never)]
-fn store_refused_copy(begun: &mut BegunReport, denial: Denial)
+fn store_refusal_apart(begun: &mut BegunReport, denial: Denial)
     ensures answer { begun.new.answer ≡ encoded (outcomes.Denied denial) }
     ensures places { begun.new.places ≡ no_copy_places }
 {
     let answer = EncodedAnswer::of(AttachedOutcome::Denied(denial));
     let places = no_places();
     *begun = BegunReport { answer, places };
+}
+
+// Stores why a copy did not begin. It is inlined, so that only such a copy makes room for the refusal.
+#[inline(always)]
+fn store_refused_copy(begun: &mut BegunReport, denial: Denial)
+    ensures answer { begun.new.answer ≡ encoded (outcomes.Denied denial) }
+    ensures places { begun.new.places ≡ no_copy_places }
+{
+    store_refusal_apart(begun, denial);
 }
 
 // Stores whether a copy began, and its places.

@@ -87,7 +87,8 @@ pub(crate) fn note(lent: &mut CDomain, gref: u32)
     lent.granted.note(gref, entry);
 }
 
-// Grants an entry of the caller.
+// Grants an entry of the caller. Each kind of grant has the steps for itself: shared ones would take the entry in memory.
+#[inline(always)]
 fn grant_entry(domain: &mut DomainHandle, gref: u32, entry: Entry) -> EncodedAnswer
     ensures { GrantsEntry gref entry result domain.old.held.value domain.new.held.value }
 {

@@ -1,5 +1,6 @@
 //! A copy walked to its access, with each step made on the words, and the release of its pins.
 ghost use Rattle.std.specs.Prelude.{◌≡◌, ℕ, None};
+ghost use Rattle.gt_model.specs.declared.held.AccessPath.TheVariants.{Direct, Own};
 ghost use Rattle.gt_words.specs.Conditions.{IsSeatOf, IsSameSeat};
 ghost use Rattle.gt_word_history.specs.declared.view.View.{View};
 ghost use Rattle.gt_calls.specs.declared.copying.PinPurpose.{PinPurpose};
@@ -90,6 +91,28 @@ fn go_through<P: Allows>(
     }
 }
 
+// Makes an access path that of a frame of the caller. Most are already, since the place of a copy is used again.
+#[inline(always)]
+fn make_own(access_path: &mut AccessPath)
+    ensures { access_path.new ≡ Own }
+{
+    match access_path {
+        AccessPath::Own => {}
+        _ => *access_path = AccessPath::Own,
+    }
+}
+
+// Makes an access path that of a pin. If it had one pin before, only that is written.
+#[inline(always)]
+fn make_direct(access_path: &mut AccessPath, first: HeldPin)
+    ensures { access_path.new ≡ Direct first }
+{
+    match access_path {
+        AccessPath::Direct(held) => *held = first,
+        _ => *access_path = AccessPath::Direct(first),
+    }
+}
+
 // Walks to the source of a copy, and writes the access path whose pins were taken. Like the functions below it writes through
 // a reference: returning an access path by value costs more than the steps.
 #[inline(always)]
@@ -131,15 +154,15 @@ fn reach_source<P: Allows>(
             }
         }
         _ => {
-            *access_path = AccessPath::Direct(first);
+            make_direct(access_path, first);
             Ok(())
         }
     }
 }
 
-// Walks to the destination of a copy, after its source, and writes the access path to it, whose pins were taken.
+// Walks to the granted destination of a copy, after its source, and writes the access path to it, whose pins were taken.
 #[inline(never)]
-fn reach_dest<P: Allows>(
+fn reach_granted<P: Allows>(
     words: &Words,
     known: &CallerState<'_, P>,
     seat: &mut Seat,
@@ -184,33 +207,62 @@ fn reach_dest<P: Allows>(
     }
 }
 
-// Walks a copy whose source is reached to its access, or to its refusal. After a refusal its pins are released.
-// `granted` is true if the destination is reached by a grant. A caller that knows it passes a constant. Then a copy to
-// a frame of the caller makes no further call that needs its pins in memory.
+// Walks to the destination of a copy like the function above, which is not inlined. This one is, so that only such a copy
+// makes room for the refusal.
 #[inline(always)]
-fn walk_to_dest<P: Allows>(
+fn reach_dest<P: Allows>(
     words: &Words,
     known: &CallerState<'_, P>,
     seat: &mut Seat,
     caller: DomId,
     copy: &CopyArgs,
-    granted: bool,
     pins: &mut CallPins,
 ) -> Result<(), Denial>
     requires seat { IsSeatOf words.now seat.old }
-    requires granted { granted ≡ is_dest_granted copy.now }
     requires can { CanRun (knows P.may known.now) words.now.layout caller
-        (at_dest (knows P.may known.now) caller copy.now pins.old.source) seat.old.view }
+        (dest_leg (knows P.may known.now) caller copy.now pins.old.source) seat.old.view }
     ensures seat { IsSameSeat seat.old seat.new }
+    ensures source { pins.new.source ≡ pins.old.source }
     ensures goes { Runs (knows P.may known.now) words.now.layout caller
-        (at_dest (knows P.may known.now) caller copy.now pins.old.source) seat.old.view
+        (dest_leg (knows P.may known.now) caller copy.now pins.old.source) seat.old.view
+        (after_dest copy.now pins.old.source (filled result pins.new.dest)) seat.new.view }
+{
+    reach_granted(words, known, seat, caller, copy, pins)
+}
+
+/// The domain that makes a copy, and whether its destination is reached by a grant. If that is a constant, a copy to a
+/// frame of the caller makes no call that needs its pins in memory.
+#[derive(Clone, Copy)]
+pub(crate) struct CopyBy {
+    pub caller: DomId,
+    pub granted: bool,
+}
+
+// Walks a copy whose source is reached to its access, or to its refusal. After a refusal its pins are released.
+#[inline(always)]
+fn walk_to_dest<P: Allows>(
+    words: &Words,
+    known: &CallerState<'_, P>,
+    seat: &mut Seat,
+    by: CopyBy,
+    copy: &CopyArgs,
+    pins: &mut CallPins,
+) -> Result<(), Denial>
+    requires seat { IsSeatOf words.now seat.old }
+    requires granted { by.granted ≡ is_dest_granted copy.now }
+    requires can { CanRun (knows P.may known.now) words.now.layout by.caller
+        (at_dest (knows P.may known.now) by.caller copy.now pins.old.source) seat.old.view }
+    ensures seat { IsSameSeat seat.old seat.new }
+    ensures goes { Runs (knows P.may known.now) words.now.layout by.caller
+        (at_dest (knows P.may known.now) by.caller copy.now pins.old.source) seat.old.view
         (after_copy copy.now (filled result pins.new)) seat.new.view }
 {
+    let granted = by.granted;
     if !granted {
-        pins.dest = AccessPath::Own;
+        make_own(&mut pins.dest);
         return Ok(());
     }
-    match reach_dest(words, known, seat, caller, copy, pins) {
+    match reach_dest(words, known, seat, by.caller, copy, pins) {
         Ok(()) => Ok(()),
         Err(denial) => {
             give_back_access_path(words, seat, &pins.source);
@@ -225,26 +277,25 @@ fn walk<P: Allows>(
     words: &Words,
     known: &CallerState<'_, P>,
     seat: &mut Seat,
-    caller: DomId,
+    by: CopyBy,
     copy: &CopyArgs,
-    granted: bool,
     pins: &mut CallPins,
 ) -> Result<(), Denial>
     requires seat { IsSeatOf words.now seat.old }
-    requires granted { granted ≡ is_dest_granted copy.now }
-    requires can { CanRun (knows P.may known.now) words.now.layout caller
-        (at_source (knows P.may known.now) caller copy.now) seat.old.view }
+    requires granted { by.granted ≡ is_dest_granted copy.now }
+    requires can { CanRun (knows P.may known.now) words.now.layout by.caller
+        (at_source (knows P.may known.now) by.caller copy.now) seat.old.view }
     ensures seat { IsSameSeat seat.old seat.new }
-    ensures goes { Runs (knows P.may known.now) words.now.layout caller
-        (at_source (knows P.may known.now) caller copy.now) seat.old.view
+    ensures goes { Runs (knows P.may known.now) words.now.layout by.caller
+        (at_source (knows P.may known.now) by.caller copy.now) seat.old.view
         (after_copy copy.now (filled result pins.new)) seat.new.view }
 {
     if !copy.is_source_granted() {
         pins.source = AccessPath::Own;
-        return walk_to_dest(words, known, seat, caller, copy, granted, pins);
+        return walk_to_dest(words, known, seat, by, copy, pins);
     }
-    match reach_source(words, known, seat, caller, copy, &mut pins.source) {
-        Ok(()) => walk_to_dest(words, known, seat, caller, copy, granted, pins),
+    match reach_source(words, known, seat, by.caller, copy, &mut pins.source) {
+        Ok(()) => walk_to_dest(words, known, seat, by, copy, pins),
         Err(denial) => Err(denial),
     }
 }
@@ -256,21 +307,20 @@ pub(crate) fn drive_copy<P: Allows>(
     words: &Words,
     known: &CallerState<'_, P>,
     seat: &mut Seat,
-    caller: DomId,
+    by: CopyBy,
     copy: &CopyArgs,
-    granted: bool,
     pins: &mut CallPins,
 ) -> Result<(), Denial>
     requires seat { IsSeatOf words.now seat.old }
-    requires granted { granted ≡ is_dest_granted copy.now }
-    requires unanswered { copy_begun (knows P.may known.now) caller copy.now ≡ None }
-    requires knows { Knows (knows P.may known.now) words.now.layout caller seat.old.view }
+    requires granted { by.granted ≡ is_dest_granted copy.now }
+    requires unanswered { copy_begun (knows P.may known.now) by.caller copy.now ≡ None }
+    requires knows { Knows (knows P.may known.now) words.now.layout by.caller seat.old.view }
     ensures seat { IsSameSeat seat.old seat.new }
     ensures stops { CopyStopsWith (knows P.may known.now) words.now.layout
-        caller copy.now (filled result pins.new) seat.old.view seat.new.view }
+        by.caller copy.now (filled result pins.new) seat.old.view seat.new.view }
 {
     every_call_goes_on_by_its_phase();
-    walk(words, known, seat, caller, copy, granted, pins)
+    walk(words, known, seat, by, copy, pins)
 }
 
 // Releases the pins of an access path, the last one first. Returns the control word that the release of the first one

@@ -24,10 +24,10 @@ ghost use Rattle.gt_live.specs.Parts.{copy_at_access, seat_of, trail_of, words_o
 
 use super::bytes::{not_made, run_of};
 use super::{Domain, known_with, record_done, record_refusal, refusal_of};
-use crate::access_paths::{CopyWords, drive_copy, give_back};
+use crate::access_paths::{CopyBy, CopyWords, drive_copy, give_back};
 use crate::monitor::Monitor;
 use gt_access::{CopyAccess, copy_under};
-use gt_audit::{Hypercall, Record, Reply};
+use gt_audit::{Hypercall, Record, Reply, Trail};
 use gt_calls::{AccessPath, CallPins, CallResult, CopyArgs, End, Spot, judge_copy, place_of};
 use gt_frames::Copied;
 use gt_types::{Allows, Denial, DomId, FRAME_SIZE};
@@ -145,6 +145,15 @@ fn copy_hypercall(copy: CopyArgs) -> Hypercall
     }
 }
 
+// Records a refused half of a copy. It is inlined, so that only a refused one makes room for its record.
+#[inline(always)]
+fn record_refused_half(trail: &mut Trail, dom: DomId, copy: CopyArgs, denial: Denial)
+    ensures { AppendsRecord trail.old
+        (record { dom = dom; call = copy_hypercall copy; reply = Reply.Denied denial }) trail.new }
+{
+    record_refusal(trail, dom, copy_hypercall(copy), denial);
+}
+
 impl Domain {
     // Returns the result of a copy, if it is decided at its beginning.
     #[inline(always)]
@@ -173,15 +182,8 @@ impl Domain {
     {
         let known = known_with(monitor, &self.seat, &self.own, &self.mappings);
         let caller = self.seat.dom();
-        drive_copy(
-            &monitor.words,
-            &known,
-            &mut self.seat,
-            caller,
-            copy,
-            granted,
-            pins,
-        )
+        let by = CopyBy { caller, granted };
+        drive_copy(&monitor.words, &known, &mut self.seat, by, copy, pins)
     }
 
     // Releases the pins that a copy held at its access. Returns the control words that this left.
@@ -359,7 +361,8 @@ impl Domain {
         }
         pending.caller = self.seat.dom();
         pending.copy = *copy;
-        match self.drive_copy(monitor, copy, copy.is_dest_granted(), &mut pending.pins) {
+        let granted = copy.is_dest_granted();
+        match self.drive_copy(monitor, &pending.copy, granted, &mut pending.pins) {
             Ok(()) => Ok(()),
             Err(denial) => Err(denial),
         }
@@ -394,7 +397,7 @@ impl Domain {
             Ok(()) => Ok(()),
             Err(denial) => {
                 let dom = self.seat.dom();
-                record_refusal(&mut self.trail, dom, copy_hypercall(*copy), denial);
+                record_refused_half(&mut self.trail, dom, *copy, denial);
                 Err(denial)
             }
         }

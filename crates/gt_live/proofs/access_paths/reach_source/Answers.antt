@@ -1,4 +1,4 @@
-use Rattle.std.proofs.Common.{[], refl, ap, Some}
+use Rattle.std.proofs.Common.{[], refl, ap, Some, subst, sym}
 use Rattle.std.specs.Prelude.{Ok, Err}
 use Rattle.gt_types.specs.declared.DomId.{DomId}
 use Rattle.gt_calls.specs.declared.copying.PinPurpose.TheVariants.{Source}
@@ -6,6 +6,8 @@ use Rattle.gt_model.specs.declared.held.AccessPath.TheVariants.{Through}
 use Rattle.gt_calls.specs.Machine.{through_via}
 use Rattle.gt_calls.specs.Known.{knows}
 use Rattle.gt_live.specs.Copies.{phase_after_source, source_leg}
+use Rattle.gt_live.specs.Phases.{Runs}
+use Rattle.gt_model.specs.declared.held.AccessPath.{AccessPath}
 use Rattle.gt_live.proofs.Phases.{can-then, runs-then}
 use Rattle.gt_live.proofs.Reaching.{no-via, source-can, source-reached, source-refused, source-via}
 use Rattle.gt_live.proofs.access_paths.reach_source.Goals as goal
@@ -68,6 +70,8 @@ returns-in_default g c =
     let leg = c.end_leg-leg.result in let is = c.end_leg-leg.ensures in
     record {
       seat = c.walk_leg.ensures.seat;
-      goes = source-reached known k caller copy leg is v c.walk_leg.new.seat.view c.in-Ok.held c.in-Ok.ensures.walked
-          (no-via c.in-Ok.held.entry c.in_default.not-Via);
+      goes = subst (λ (r : AccessPath). Runs known k caller (source_leg known caller copy) v
+          (phase_after_source known caller copy (Ok r)) c.walk_leg.new.seat.view) (sym c.make_direct.ensures)
+          (source-reached known k caller copy leg is v c.walk_leg.new.seat.view c.in-Ok.held c.in-Ok.ensures.walked
+          (no-via c.in-Ok.held.entry c.in_default.not-Via));
     }

@@ -17,7 +17,7 @@ use Rattle.gt_live.proofs.access_paths.walk_to_dest.Goals as goal
 pub reach_dest-requires-clause-can : goal.reach_dest-requires-clause-can
 reach_dest-requires-clause-can g c =
     let known = knows g.P.Allows.may c.args.known.now in let k = c.args.words.now.layout in
-    let caller = c.args.caller in let copy = c.args.copy.now in let source = c.args.pins.now.source in
+    let caller = c.args.by.caller in let copy = c.args.copy.now in let source = c.args.pins.now.source in
     can-from known k caller (at_dest known caller copy source) (dest_leg known caller copy source) c.args.seat.now.view
     (dest-walked known k caller copy source (sym c.requires.granted ∙ c.if-not-granted.false))
     c.requires.can
@@ -25,7 +25,7 @@ reach_dest-requires-clause-can g c =
 pub give_back_access_path-requires-clause-can : goal.give_back_access_path-requires-clause-can
 give_back_access_path-requires-clause-can g c =
     let known = knows g.P.Allows.may c.args.known.now in let k = c.args.words.now.layout in
-    let caller = c.args.caller in let copy = c.args.copy.now in let source = c.args.pins.now.source in
+    let caller = c.args.by.caller in let copy = c.args.copy.now in let source = c.args.pins.now.source in
     let v = c.args.seat.now.view in let u = c.reach_dest.new.seat.view in let denial = c.in-Err.denial in
     let walked = dest-walked known k caller copy source (sym c.requires.granted ∙ c.if-not-granted.false) in
     subst (λ (r : AccessPath). CanGiveBack k (held_by r) u) (sym c.reach_dest.ensures.source)
@@ -38,7 +38,7 @@ give_back_access_path-requires-clause-can g c =
 pub returns-in-Err-clause-goes : goal.returns-in-Err-clause-goes
 returns-in-Err-clause-goes g c =
     let known = knows g.P.Allows.may c.args.known.now in let k = c.args.words.now.layout in
-    let caller = c.args.caller in let copy = c.args.copy.now in let source = c.args.pins.now.source in
+    let caller = c.args.by.caller in let copy = c.args.copy.now in let source = c.args.pins.now.source in
     let v = c.args.seat.now.view in let u = c.reach_dest.new.seat.view in let denial = c.in-Err.denial in
     let w = c.give_back_access_path.new.seat.view in
     let walked = dest-walked known k caller copy source (sym c.requires.granted ∙ c.if-not-granted.false) in
@@ -52,16 +52,17 @@ returns-in-Err-clause-goes g c =
 pub returns-then-not-granted-clause-goes : goal.returns-then-not-granted-clause-goes
 returns-then-not-granted-clause-goes g c =
     let known = knows g.P.Allows.may c.args.known.now in let k = c.args.words.now.layout in
-    let caller = c.args.caller in let copy = c.args.copy.now in let pins = c.args.pins.now in
+    let caller = c.args.by.caller in let copy = c.args.copy.now in let pins = c.args.pins.now in
     let v = c.args.seat.now.view in let start = at_dest known caller copy pins.source in
-    runs-to known k caller start start (Accessing copy pins.source Own) v v
+    subst (λ (r : AccessPath). Runs known k caller start v (Accessing copy pins.source r) v) (sym c.make_own.ensures)
+    (runs-to known k caller start start (Accessing copy pins.source Own) v v
     (dest-own known k caller copy pins.source (sym c.requires.granted ∙ c.if-not-granted.true))
-    (runs-none known k caller start v)
+    (runs-none known k caller start v))
 
 pub returns-in-Ok-clause-goes : goal.returns-in-Ok-clause-goes
 returns-in-Ok-clause-goes g c =
     let known = knows g.P.Allows.may c.args.known.now in let k = c.args.words.now.layout in
-    let caller = c.args.caller in let copy = c.args.copy.now in let source = c.args.pins.now.source in
+    let caller = c.args.by.caller in let copy = c.args.copy.now in let source = c.args.pins.now.source in
     let v = c.args.seat.now.view in let w = c.reach_dest.new.seat.view in
     let walked = dest-walked known k caller copy source (sym c.requires.granted ∙ c.if-not-granted.false) in
     let dest = c.reach_dest.new.pins.dest in
