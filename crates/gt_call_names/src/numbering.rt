@@ -5,7 +5,8 @@ ghost use Rattle.std.specs.List.{position, slice_split};
 ghost use Rattle.std.specs.Str.Lines.{lines as lines_in};
 ghost use Rattle.gt_call_names.specs.Naming.{HasRepeated, IsNumberingFault, IsExpressionNumbered, first_repeated};
 ghost use Rattle.gt_call_names.specs.Naming.{is_break, is_equals, is_field, lines_of_part};
-ghost use Rattle.gt_call_names.specs.Naming.{mark_after, numbers_named, with_line_numbers, part_numbered, parts_numbered, repeated};
+ghost use Rattle.gt_call_names.specs.Naming.{mark_after, numbers_named, part_numbered, parts_numbered, repeated};
+ghost use Rattle.gt_call_names.specs.Naming.{with_line_numbers};
 
 use crate::fault::NameFault;
 use crate::lines::numbers_named;

@@ -7,7 +7,8 @@
 //!
 //! The texts returned or written are texts that the script may give (`MayGive` of `gt_explore_replay`), each of them
 //! once. They are all such texts, unless the search met more states than its limit, its watch ended it, memory was
-//! wanting, or those found decide each claim (`FoundTexts::whole`). That a text is possible depends on the core, and that none is missing on the search.
+//! wanting, or those found decide each claim (`FoundTexts::whole`). That a text is possible depends on the core, and
+//! that none is missing on the search.
 //!
 //! Besides these crates it uses `gt_explore_search` (orders), `gt_explore_verdict`, `gt_explore_faults`, `gt_script`,
 //! `gt_script_runs` and `gt_text` (reads and writes). Its definitions also name `gt_policy`.

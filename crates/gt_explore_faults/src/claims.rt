@@ -9,11 +9,11 @@ use std::fmt;
 /// Why a term such as `12<17`, which is an order of two calls, can't be a part of an expression.
 #[derive(Clone, Copy, Debug, PartialEq, Eq)]
 pub enum PrecedenceFault {
-    /// The claim is `always`. What holds of each text in that order is no claim about all texts.
+    /// The claim is `always`. The runs in that order do not show what holds of all texts.
     Always,
     /// The terms of the expression are not all joined by `&`, or an order comes after `!`.
     Joined,
-    /// There is no call on the line of a side, and none with its name.
+    /// A side is neither the line of a call nor the name of one.
     Call,
 }
 

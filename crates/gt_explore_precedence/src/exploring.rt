@@ -59,8 +59,8 @@ fn in_precedence<'a>(
     script: RunScript<'a>,
     parts: &[&[u8]],
 ) -> Result<RunScript<'a>, ClaimsFault>
-    ensures runs { IfOk result (λ s.
-        AreRunsOf (lines_in source.now) (run_contents script.entry) (map (λ part. part.now) parts.now) (run_contents s)) }
+    ensures runs { let said = map (λ part. part.now) parts.now in
+        IfOk result (λ s. AreRunsOf (lines_in source.now) (run_contents script.entry) said (run_contents s)) }
     ensures head { IfOk result (λ s. s.head ≡ script.entry.head) }
     ensures numbered { AreNumbered script.entry.flags script.entry.tasks →
         IfOk result (λ s. AreNumbered s.flags s.tasks) }

@@ -50,7 +50,7 @@ pub fn parts_in<'e>(alloc: Global, expression: &'e [u8]) -> Result<Vec<&'e [u8]>
     expression.split(|b| is_and(*b)).collect(alloc)
 }
 
-// Appends a part and a `&`, if it is no term of order.
+// Appends a part and a `&`, unless it is a term of order.
 fn push_plain(out: &mut Vec<u8>, part: &[u8]) -> Result<(), AllocError>
     ensures { OnOk result (out.new.items ≡ out.old.items ++ plain_part part.now) }
 {

@@ -2,14 +2,15 @@
 //!
 //! A fault line has a line number and a word. `push_script_reason` prints what is wrong in that line: the word that
 //! does not fit and what fits there, the limit that a domain exceeds, the flag that no domain raises in time.
-//! `push_refusals` prints the statements or triples that are near misses for a call that the policy refused. The reasons
-//! for policies are in `gt_policy_reasons`.
+//! `push_refusals` prints the statements or triples that are near misses for a call that the policy refused. The
+//! reasons for policies are in `gt_policy_reasons`.
 //!
 //! It is proved that the words before the printed one fit the example of a form, that the printed one does not fit the
 //! same example, and that of no other form more words fit. The texts of the reasons are tested.
 //!
-//! It uses `gt_script_lines` and `gt_script` (lines and faults), `gt_explore_choices` (lines that are only for `explore`), `gt_policy_statements` and `gt_policy` (policies),
-//! `gt_findings` (hints), `gt_types` (limits) and `gt_text` (texts).
+//! It uses `gt_script_lines` and `gt_script` (lines and faults), `gt_explore_choices` (lines that are only for
+//! `explore`), `gt_policy_statements` and `gt_policy` (policies), `gt_findings` (hints), `gt_types` (limits) and
+//! `gt_text` (texts).
 #![tactic(auto)]
 
 mod blocks;

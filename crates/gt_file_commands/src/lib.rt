@@ -9,11 +9,11 @@
 //! specify, for texts and a writer with known bytes, the output and the outcome (specs/Working.antt). `run`, `explore`
 //! and the command line are in `gt_program`: their failures and outcomes are of the same types.
 //!
-//! It uses `gt_command_line` (plans), `gt_host`, `gt_policy_list`, `gt_check_command` and `gt_entries` (the commands), `gt_json`
-//! (the JSON of a text), `gt_explore_choices` (faults of choices), `gt_fault_reasons` (the words for scripts and policies), `gt_policy_statements` and `gt_findings` (questions and
-//! findings),
-//! `gt_policy_flow` (flows), `gt_script_runs`, `gt_policy` and `gt_explore_faults` (faults), `gt_script_lines` (words),
-//! `gt_text` and `gt_types`. Its definitions also name `gt_script`.
+//! It uses `gt_command_line` (plans), `gt_host`, `gt_policy_list`, `gt_check_command` and `gt_entries` (the commands),
+//! `gt_json` (the JSON of a text), `gt_explore_choices` (faults of choices), `gt_fault_reasons` (the words for scripts
+//! and policies), `gt_policy_statements` and `gt_findings` (questions and findings), `gt_policy_flow` (flows),
+//! `gt_script_runs`, `gt_policy` and `gt_explore_faults` (faults), `gt_script_lines` (words), `gt_text` and `gt_types`.
+//! Its definitions also name `gt_script`.
 #![tactic(auto)]
 
 mod asking;
