@@ -104,7 +104,7 @@ man() {
 
 # The long flags of a command, a line each: the flag, `=` where it takes a value, and what it is.
 flags() {
-  stored "$1 -h" | section Options | sed -n 's/^\(-[a-zA-Z], \)\{0,1\}--\([a-z]*\)\( <[^>]*>\)\{0,1\}  *\(.*\)$/\2\x1f\3\x1f\4/p'
+  stored "$1 -h" | section Options | sed -n 's/^\(-[a-zA-Z], \)\{0,1\}--\([a-z-]*\)\( <[^>]*>\)\{0,1\}  *\(.*\)$/\2\x1f\3\x1f\4/p'
 }
 
 # The flags of a command, in one line.

@@ -30,6 +30,7 @@ _gthost() {
     "explore --witness") mapfile -t COMPREPLY < <(compgen -W "all" -- "$word"); return ;;
     "explore --trace") mapfile -t COMPREPLY < <(compgen -W "" -- "$word"); return ;;
     "explore --diff") mapfile -t COMPREPLY < <(compgen -W "" -- "$word"); return ;;
+    "explore --never-state") mapfile -t COMPREPLY < <(compgen -W "" -- "$word"); return ;;
     "explore --states") mapfile -t COMPREPLY < <(compgen -W "" -- "$word"); return ;;
     "explore --format") mapfile -t COMPREPLY < <(compgen -W "text json mermaid" -- "$word"); return ;;
     "policy --format") mapfile -t COMPREPLY < <(compgen -W "text json" -- "$word"); return ;;
@@ -44,7 +45,7 @@ _gthost() {
   case "$command" in
     play) words="--audit --verbose -v --format --help" ;;
     run) words="--audit --verbose -v --format --help" ;;
-    explore) words="--verbose -v --find --never --always --claims --has --witness --trace --summary --diff --states --format --help" ;;
+    explore) words="--verbose -v --find --never --always --claims --has --witness --trace --summary --diff --never-state --states --format --help" ;;
     policy) words="--verbose -v --format --help" ;;
     rules) words="--verbose -v --help" ;;
     check) words="--script --verbose -v --never --format --help" ;;

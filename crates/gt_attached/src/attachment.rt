@@ -323,6 +323,19 @@ impl<P: Allows + Drop> AttachedDomain<P> {
         requires idle { self.old.copying ≡ None }
         ensures begins { BeginsAccess P.may self.old copy.now result self.new }
     {
+        self.copy_begin_at::<()>(copy)
+    }
+
+    /// Begins a copy as [`copy_begin`](AttachedDomain::copy_begin) does. `Site` is any type that no other caller passes:
+    /// each caller then has a beginning of its own to inline, in which flags that are constant there are not tested.
+    ///
+    /// # Errors
+    /// Those of [`copy_begin`](AttachedDomain::copy_begin).
+    #[inline(always)]
+    pub fn copy_begin_at<Site>(&mut self, copy: &CopyArgs) -> Result<CopyPlaces, Denial>
+        requires idle { self.old.copying ≡ None }
+        ensures begins { BeginsAccess P.may self.old copy.now result self.new }
+    {
         let begun = self
             .attachment
             .domain

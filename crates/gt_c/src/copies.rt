@@ -2,11 +2,8 @@
 ghost use Rattle.std.specs.Prelude.{◌≡◌, ◌≤◌, Ok};
 ghost use Rattle.gt_attached.specs.Encoding.{encoded};
 ghost use Rattle.gt_attached.specs.declared.answer.AttachedOutcome.TheVariants as outcomes;
-ghost use Rattle.gt_types.specs.Denial.{denial_of};
-ghost use Rattle.gt_types.specs.declared.denial.Facts.TheVariants as facts;
 ghost use Rattle.gt_c.specs.Promises.{BeginsCopy};
-ghost use Rattle.gt_c.specs.Reports.{CopyEnds, copy_asked, end_asked, no_copy_places, outcome_begun, place_report};
-ghost use Rattle.gt_c.specs.Reports.{places_report};
+ghost use Rattle.gt_c.specs.Reports.{CopyEnds, copy_asked, end_asked, no_copy_places, place_report, places_report};
 
 use crate::calls::MOST;
 use crate::handle::DomainHandle;
@@ -65,15 +62,16 @@ fn end_asked(end: CopyEnd) -> End
     }
 }
 
-// Returns the copy that C asks for, or the rule that refuses it because a number does not fit.
+// Returns the copy that C asks for, with these flags, or the rule that refuses it because a number does not fit.
 #[inline(always)]
-fn copy_asked(copy: &CopySettings) -> Result<CopyArgs, Rule>
+fn copy_asked(copy: &CopySettings, flags: u32) -> Result<CopyArgs, Rule>
+    requires flags { flags ≡ copy.now.flags }
     ensures { result ≡ copy_asked copy.now }
 {
     if copy.source.dom > MOST || copy.dest.dom > MOST {
         return Err(Rule::N1);
     }
-    if copy.flags > MOST {
+    if flags > MOST {
         return Err(Rule::N2);
     }
     if copy.source.off > MOST || copy.dest.off > MOST || copy.len > MOST {
@@ -83,7 +81,7 @@ fn copy_asked(copy: &CopySettings) -> Result<CopyArgs, Rule>
         source: end_asked(copy.source),
         dest: end_asked(copy.dest),
         len: copy.len as u16,
-        flags: copy.flags as u16,
+        flags: flags as u16,
     })
 }
 
@@ -157,18 +155,63 @@ fn store_refused_copy(begun: &mut BegunReport, denial: Denial)
     store_refusal_apart(begun, denial);
 }
 
-// Stores whether a copy began, and its places.
-fn store_begun(begun: &mut BegunReport, answered: Result<CopyPlaces, Denial>)
-    ensures answer { begun.new.answer ≡ encoded (outcome_begun answered) }
-    ensures places { begun.new.places ≡ places_report answered }
+// Stores that a copy began, and its places.
+#[inline(always)]
+fn store_begun(begun: &mut BegunReport, places: CopyPlaces)
+    ensures answer { begun.new.answer ≡ encoded outcomes.Done }
+    ensures places { begun.new.places ≡ places_report (Ok places) }
 {
-    match answered {
-        Ok(places) => {
-            begun.answer = EncodedAnswer::of(AttachedOutcome::Done);
-            begun.places = places_report(places);
-        }
-        Err(denial) => store_refused_copy(begun, denial),
+    begun.answer = EncodedAnswer::of(AttachedOutcome::Done);
+    begun.places = places_report(places);
+}
+
+// The flags of a copy from a grant to a frame of the caller. Such a copy has a body for itself, in which the flags are a
+// constant.
+const FROM_GRANT: u32 = 1;
+
+struct FromGrant;
+
+// Begins a copy with these flags.
+#[inline(always)]
+fn begin_copy<Site>(
+    domain: &mut DomainHandle,
+    copy: &CopySettings,
+    flags: u32,
+    begun: &mut BegunReport,
+)
+    requires flags { flags ≡ copy.now.flags }
+    ensures { BeginsCopy copy.now begun.new domain.old.held.value domain.new.held.value }
+{
+    if is_turned_away(domain, &mut begun.answer) {
+        begun.places = no_places();
+        return;
     }
+    let lent = lent_mut(&mut domain.held);
+    let args = match copy_asked(copy, flags) {
+        Ok(args) => args,
+        Err(rule) => {
+            store_refused_copy(begun, Denial::new(rule, Facts::None));
+            return;
+        }
+    };
+    match lent.attached.copy_begin_at::<Site>(&args) {
+        Ok(places) => {
+            domain.is_ready = false;
+            store_begun(begun, places);
+        }
+        Err(denial) => {
+            domain.is_ready = true;
+            store_refused_copy(begun, denial);
+        }
+    }
+}
+
+// Begins a copy with any flags.
+#[inline(never)]
+fn begin_any(domain: &mut DomainHandle, copy: &CopySettings, begun: &mut BegunReport)
+    ensures { BeginsCopy copy.now begun.new domain.old.held.value domain.new.held.value }
+{
+    begin_copy::<()>(domain, copy, copy.flags, begun);
 }
 
 /// Begins a copy: takes its pins, and stores the places where bytes may be read and written until it ends. After a
@@ -182,21 +225,11 @@ pub extern "C" fn gthost_copy_begin_at(
 )
     ensures { BeginsCopy copy.now begun.new domain.old.held.value domain.new.held.value }
 {
-    if is_turned_away(domain, &mut begun.answer) {
-        begun.places = no_places();
-        return;
+    if copy.flags == FROM_GRANT {
+        begin_copy::<FromGrant>(domain, copy, FROM_GRANT, begun);
+    } else {
+        begin_any(domain, copy, begun);
     }
-    let lent = lent_mut(&mut domain.held);
-    let args = match copy_asked(copy) {
-        Ok(args) => args,
-        Err(rule) => {
-            store_refused_copy(begun, Denial::new(rule, Facts::None));
-            return;
-        }
-    };
-    let answered = lent.attached.copy_begin(&args);
-    domain.is_ready = answered.is_err();
-    store_begun(begun, answered);
 }
 
 /// Ends the copy that the domain is in: releases its pins, the last one first. Stores the control words that this left.

@@ -18,7 +18,7 @@ use crate::lending::lent_mut;
 use gt_attached::{AttachedOutcome, EncodedAnswer, MapRequest, MappingName, NamedMapping};
 use gt_calls::Handle as Name;
 use gt_live::{LeftWord, NewMapping};
-use gt_types::{Denial, DomId, GrantRef, Rule};
+use gt_types::{DOMID_SELF, Denial, DomId, GrantRef, Rule};
 
 /// The name of a mapping: its handle, the number of its run, and the domain that has it.
 #[repr(C)]
@@ -154,9 +154,25 @@ fn store_refused_number(domain: &mut DomainHandle, answer: &mut EncodedAnswer)
     *answer = refused_number(domain, Rule::N1);
 }
 
+// The flags of a map for reading, and of one for reading and writing. A map with either has a body for itself, in which
+// the flags are a constant.
+const READING: u32 = 6;
+
+const WRITING: u32 = 2;
+
+struct ForReading;
+
+struct ForWriting;
+
 // Maps an entry of a domain whose number fits.
 #[inline(always)]
-fn map_of(domain: &mut DomainHandle, dom: u16, gref: u32, flags: u32, answer: &mut EncodedAnswer)
+fn map_of<Site>(
+    domain: &mut DomainHandle,
+    dom: u16,
+    gref: u32,
+    flags: u32,
+    answer: &mut EncodedAnswer,
+)
     ensures { Maps dom gref flags answer.new domain.old.held.value domain.new.held.value }
 {
     if is_turned_away(domain, answer) {
@@ -164,8 +180,30 @@ fn map_of(domain: &mut DomainHandle, dom: u16, gref: u32, flags: u32, answer: &m
     }
     let lent = lent_mut(&mut domain.held);
     let caller = lent.attached.dom();
-    let answered = lent.attached.map(DomId(dom), GrantRef(gref), flags);
+    let answered = lent
+        .attached
+        .map_at::<Site>(DomId(dom), GrantRef(gref), flags);
     store_mapped(answer, answered, caller, lent.run);
+}
+
+// Maps an entry with arguments that few maps have: `DOMID_SELF`, a number that does not fit, or other flags.
+#[cold]
+#[inline(never)]
+fn map_rarely(
+    domain: &mut DomainHandle,
+    dom: u32,
+    gref: u32,
+    flags: u32,
+    answer: &mut EncodedAnswer,
+)
+    ensures { Within16 N1 dom answer.new domain.old.held.value domain.new.held.value
+        (Maps dom gref flags answer.new domain.old.held.value domain.new.held.value) }
+{
+    if dom > MOST {
+        store_refused_number(domain, answer);
+        return;
+    }
+    map_of::<()>(domain, dom as u16, gref, flags, answer);
 }
 
 /// Maps an entry of a domain, for reading and writing (flags 2) or for reading (flags 6).
@@ -180,11 +218,17 @@ pub extern "C" fn gthost_map_at(
     ensures { Within16 N1 dom answer.new domain.old.held.value domain.new.held.value
         (Maps dom gref flags answer.new domain.old.held.value domain.new.held.value) }
 {
-    if dom > MOST {
-        store_refused_number(domain, answer);
+    if dom >= u32::from(DOMID_SELF) {
+        map_rarely(domain, dom, gref, flags, answer);
         return;
     }
-    map_of(domain, dom as u16, gref, flags, answer);
+    if flags == READING {
+        map_of::<ForReading>(domain, dom as u16, gref, READING, answer);
+    } else if flags == WRITING {
+        map_of::<ForWriting>(domain, dom as u16, gref, WRITING, answer);
+    } else {
+        map_rarely(domain, dom, gref, flags, answer);
+    }
 }
 
 /// Unmaps a mapping.

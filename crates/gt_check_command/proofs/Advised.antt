@@ -13,8 +13,8 @@ use Rattle.gt_check_command.specs.Checking.{Checked, CheckedText, IsCleanText}
 use Rattle.gt_check_command.specs.Explaining.{AnswersWhy, AskedOf, Explained, WritesAnswer, WritesLines, answer_for}
 use Rattle.gt_check_command.specs.Explaining.{pairs_question, says_yes, why_text}
 use Rattle.gt_check_command.specs.declared.explaining.WhyRequest.{WhyRequest}
-use Rattle.gt_policy_pairs.specs.Pairs.{ArePairsOf}
-use Rattle.gt_policy_pairs.specs.declared.asking.PairsReport.{PairsReport}
+use Rattle.gt_policy_questions.specs.Pairs.{ArePairsOf}
+use Rattle.gt_policy_questions.specs.declared.asking.PairsReport.{PairsReport}
 use Rattle.gt_check_command.specs.Reporting.{WritesFindings}
 use Rattle.gt_check_command.specs.declared.fault.WhyFault.{WhyFault}
 use Rattle.gt_check_command.specs.declared.fault.WhyFault.TheVariants.{Text, NoSource, NoTarget, NoPermission}

@@ -20,9 +20,9 @@ use Rattle.gt_policy.specs.Whole.{ReadsAs}
 use Rattle.gt_policy.specs.declared.fault.TokenFault.{TokenFault}
 use Rattle.gt_policy.specs.declared.lined.LinedStatement.{LinedStatement}
 use Rattle.gt_policy_statements.specs.Why.{perm_asked}
-use Rattle.gt_policy_pairs.specs.Pairs.{ArePairsOf}
-use Rattle.gt_policy_pairs.specs.declared.asking.PairsQuestion.{PairsQuestion}
-use Rattle.gt_policy_pairs.specs.declared.asking.PairsReport.{PairsReport}
+use Rattle.gt_policy_questions.specs.Pairs.{ArePairsOf}
+use Rattle.gt_policy_questions.specs.declared.asking.PairsQuestion.{PairsQuestion}
+use Rattle.gt_policy_questions.specs.declared.asking.PairsReport.{PairsReport}
 use Rattle.gt_types.specs.Names.{permission_of}
 use Rattle.gt_types.specs.declared.perms.Perms.{Perms}
 use Rattle.gt_text.specs.Streams.{AppendsBeginning}

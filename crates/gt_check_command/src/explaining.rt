@@ -8,7 +8,7 @@ ghost use Rattle.gt_check_command.specs.Explaining.{pairs_perm, share_text, shar
 
 use crate::fault::WhyFault;
 use gt_policy_list::{ListingFault, policy_text};
-use gt_policy_pairs::{PairsQuestion, PairsReport, pairs};
+use gt_policy_questions::{PairsQuestion, PairsReport, pairs};
 use gt_policy_statements::{Explanation, WhyAnswer, WhyQuestion};
 use gt_text::{finish, push_number, push_text, read_text};
 use gt_types::Perms;

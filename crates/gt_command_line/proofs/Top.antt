@@ -43,7 +43,7 @@ rows_in mode words = rows_after (lookups.built_rules (usage_of mode)) [] words
 command_words : (mode : Mode) (words : List Text) → walks.Tells (usage_of mode) (command_name mode) (line (usage_of mode) words) (command_fault mode words) (rows_in mode words)
 command_words Play words = command_tells (usage_of Play) (command_name Play) (refl, refl, refl) (refl, tt) words
 command_words Run words = command_tells (usage_of Run) (command_name Run) (refl, refl, refl) (refl, tt) words
-command_words Explore words = command_tells (usage_of Explore) (command_name Explore) (refl, refl, refl) (refl, (refl, (refl, (refl, (refl, (refl, (refl, (refl, (refl, (refl, tt)))))))))) words
+command_words Explore words = command_tells (usage_of Explore) (command_name Explore) (refl, refl, refl) (refl, (refl, (refl, (refl, (refl, (refl, (refl, (refl, (refl, (refl, (refl, tt))))))))))) words
 command_words Policy words = command_tells (usage_of Policy) (command_name Policy) (refl, refl, refl) (refl, tt) words
 command_words Rules words = command_tells (usage_of Rules) (command_name Rules) (refl, refl, refl) tt words
 command_words Check words = command_tells (usage_of Check) (command_name Check)
@@ -68,6 +68,7 @@ read_rows mode given rows is = ap (λ (rs : List Row). read mode (λ id. first_o
       value_at_end (usage_of Explore) given (codes "trace") refl,
       flag_at_end (usage_of Explore) given (codes "summary"),
       value_at_end (usage_of Explore) given (codes "diff") refl,
+      value_at_end (usage_of Explore) given (codes "never-state") refl,
       value_at_end (usage_of Explore) given (codes "format") refl,
       value_at_end (usage_of Explore) given (codes "has") refl,
       value_at_end (usage_of Explore) given (codes "states") refl,

@@ -61,7 +61,7 @@ usage_of Run = runner_usage
 usage_of Explore = record common_usage {
   flags = codes "summary" ∷ codes "verbose" ∷ [];
   options = codes "find" ∷ codes "never" ∷ codes "always" ∷ codes "claims" ∷ codes "has" ∷ codes "witness"
-      ∷ codes "trace" ∷ codes "diff" ∷ codes "states" ∷ codes "format" ∷ [];
+      ∷ codes "trace" ∷ codes "diff" ∷ codes "never-state" ∷ codes "states" ∷ codes "format" ∷ [];
 }
 usage_of Policy = record common_usage { options = one (codes "format") }
 usage_of Rules = common_usage
@@ -114,7 +114,7 @@ gthost_app = fold with_mode bare_app every_mode
 
 -- what an exploration seeks: all texts, the verdict on a claim, the verdicts on the claims of a text, a script for the
 -- text of a number, one for each, the moves that lead to the text of a number, as lines or as a diagram, how many texts
--- have each answer, or where the texts of two numbers differ
+-- have each answer, where the texts of two numbers differ, or the verdict on a claim about what entries show
 pub data Sought : Type 0 where
   all_texts : Sought
   a_claim : Claim → Text → Sought
@@ -125,6 +125,7 @@ pub data Sought : Type 0 where
   one_diagram : ℕ → Sought
   a_summary : Sought
   a_difference : ℕ → ℕ → Sought
+  a_state_claim : Text → Sought
 
 -- To play a script, to run one, to explore one, to find the text of a file among its texts, to list a policy, to list
 -- the rules, to check a policy or a script, to check a policy against the neverallow statements of a file, to explain
@@ -211,6 +212,11 @@ diff_option (Some word) =
     (number_up_to 18446744073709551615 (after_first (λ b. b == 44) word))
     else None
 
+-- `--never-state S`, if it is given
+abbrev pub state_option : Option Text → Option (Option Sought)
+state_option None = Some None
+state_option (Some claim) = Some (Some (a_state_claim claim))
+
 -- `--find EXPR`, `--never EXPR` or `--always EXPR`, of which only one may be given
 abbrev pub claim_of : Option Text → Option Text → Option Text → Option (Option Sought)
 claim_of None None None = Some None
@@ -286,11 +292,21 @@ diagram_of (Some all_scripts) = None
 diagram_of (Some (one_diagram number)) = None
 diagram_of (Some a_summary) = None
 diagram_of (Some (a_difference one other)) = None
+diagram_of (Some (a_state_claim claim)) = None
+
+-- what is sought is the verdict on a claim about what entries show
+abbrev pub is_of_states : Option Sought → Bool
+is_of_states (Some (a_state_claim claim)) = true
+is_of_states _ = false
+
+-- what is sought as JSON; a claim about what entries show has no such answer
+abbrev pub json_of : Option Sought → Option (Option Sought × Format)
+json_of sought = if is_of_states sought then None else Some (sought, Json)
 
 -- what is sought in a form, with its format
 abbrev pub formed : ExploreForm → Option Sought → Option (Option Sought × Format)
 formed explore_forms.Text sought = Some (sought, formats.Text)
-formed explore_forms.Json sought = Some (sought, Json)
+formed explore_forms.Json sought = json_of sought
 formed explore_forms.Mermaid sought = diagram_of sought
 
 -- the same by the values of the options; nothing if an option does not take its value
@@ -361,11 +377,13 @@ read Explore value = explore_with
     (formed_of
     (sought_too
     (sought_too
+    (sought_too
     (one_sought
     (claims_of (claim_of (value (codes "find")) (value (codes "never")) (value (codes "always")))
     (value (codes "claims")))
     (witness_of (value (codes "witness"))) (trace_option (value (codes "trace"))))
     (summary_option (is_true (value (codes "summary"))))) (diff_option (value (codes "diff"))))
+    (state_option (value (codes "never-state"))))
     (explore_form_of (value (codes "format")))) (value (codes "has"))
     (states_of (value (codes "states"))) (value (codes "file"))
 read Policy value = list_with (format_of (value (codes "format"))) (is_true (value (codes "verbose")))
@@ -432,6 +450,7 @@ sought_by (explorations.Trace number) = one_trace number
 sought_by (explorations.Diagram number) = one_diagram number
 sought_by explorations.Summary = a_summary
 sought_by (explorations.Difference one other) = a_difference one other
+sought_by (explorations.NeverState claim) = a_state_claim claim.now
 
 -- what a plan asks for
 abbrev pub asked_by_plan : Invocation → Request

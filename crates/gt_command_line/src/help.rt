@@ -87,6 +87,7 @@ Options:
       --trace <N>        Print the steps that lead to output N, a line each
       --summary          Print the lines whose answers vary, and how often
       --diff <K,L>       Print the lines in which outputs K and L differ
+      --never-state <S>  Claim that entries never show S at one moment
       --states <N>       Stop after N states [default: 1000000]
       --format <FORM>    Print text, json, or mermaid (--trace) [default: text]
   -h, --help             Print help
@@ -97,6 +98,11 @@ answer of this domain does). LINE may be a NAME: `do 1 revoke 0 as NAME`. A term
 that no answer can meet is refused. LINE<LINE, joined by & alone in a single
 --find or --never, is a run in which the first call is answered before the second
 begins. Several claims are decided by one search, and print a line each.
+
+S is terms ID.REF:WORD with ! (not), & (and) and | (or), without brackets: entry
+REF of domain ID shows WORD, which is none, invalid, page, sub, via, rw, ro, or
+FIELD=N, FIELD<N or FIELD>N, for a FIELD that `show` prints: frame, off, len, to,
+ref, gen, reads or writes; or for grantee, the domain after the kind.
 
 A call `maybe ID CALL` of the script may be left out, and the list of a domain may
 end at a line `leave ID`.

@@ -89,6 +89,8 @@ pub enum Exploration<'a> {
     Summary,
     /// The lines in which the texts of these numbers differ.
     Difference(usize, usize),
+    /// The verdict on this claim: there is no moment at which it holds of what entries show.
+    NeverState(&'a str),
 }
 
 /// The options of `explore` beside what it is asked for.

@@ -44,7 +44,7 @@ const FORMAT: Part = Part::Free("format", "text|json");
 // The parts of `play` and of `run`.
 static RUNNER_PARTS: [Part; 4] = [FILE, Part::Flag("audit"), VERBOSE, FORMAT];
 
-static EXPLORE_PARTS: [Part; 13] = [
+static EXPLORE_PARTS: [Part; 14] = [
     FILE,
     Part::Flag("summary"),
     VERBOSE,
@@ -56,6 +56,7 @@ static EXPLORE_PARTS: [Part; 13] = [
     Part::Free("witness", "N|all"),
     Part::Free("trace", "N"),
     Part::Free("diff", "K,L"),
+    Part::Free("never-state", "S"),
     Part::Free("states", "N"),
     Part::Free("format", "FORM"),
 ];

@@ -19,8 +19,8 @@ use crate::invocation::{
 };
 use crate::line::gthost_command;
 use crate::values::{
-    claim_of, claims_of, diff_of, form_of, format_of, script_of, sought_too, states_of, summary_of,
-    trace_of, type_of, version_of, witness_of,
+    claim_of, claims_of, diff_of, form_of, format_of, script_of, sought_too, state_claim_of,
+    states_of, summary_of, trace_of, type_of, version_of, witness_of,
 };
 use clap::error::ErrorKind;
 use clap::{ArgMatches, Error};
@@ -247,7 +247,9 @@ fn read_explore<'a>(matches: &ArgMatches<'a>) -> Option<Invocation<'a>>
     let trace = trace_of(value_of(matches, "trace"));
     let summary = summary_of(is_set(matches, "summary"));
     let diff = diff_of(value_of(matches, "diff"));
-    let sought = sought_too(sought_too(one_sought(claim, witness, trace), summary), diff);
+    let state = state_claim_of(value_of(matches, "never-state"));
+    let texts = sought_too(sought_too(one_sought(claim, witness, trace), summary), diff);
+    let sought = sought_too(texts, state);
     let form = form_of(value_of(matches, "format"));
     explore_with(
         formed_of(sought, form),
@@ -384,9 +386,11 @@ fn refused_by_explore<'a>(matches: &ArgMatches<'a>) -> (&'static str, Option<&'a
         ("--format takes text, json or mermaid", format)
     } else if format == Some("mermaid") && trace.is_none() {
         ("--format mermaid is only for --trace", None)
+    } else if format == Some("json") && value_of(matches, "never-state").is_some() {
+        ("--format json is not for --never-state", None)
     } else {
         (
-            "only claims (--find, --never, --always), or one of --claims, --has, --witness, --trace, --summary and --diff can be given",
+            "only claims (--find, --never, --always), or one of --claims, --never-state, --has, --witness, --trace, --summary and --diff can be given",
             None,
         )
     }

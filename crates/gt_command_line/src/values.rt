@@ -3,6 +3,7 @@ ghost use Rattle.std.specs.Prelude.{◌≡◌};
 ghost use Rattle.std.specs.Option.{option_map};
 ghost use Rattle.gt_command_line.specs.Commands.{diagram_of, explore_form_of, format_of, formed, domain_number, number_up_to, script_of, states_of, type_of};
 ghost use Rattle.gt_command_line.specs.Commands.{claim_of, claims_of, diff_option, sought_of, sought_by, sought_too};
+ghost use Rattle.gt_command_line.specs.Commands.{is_of_states, json_of, state_option};
 ghost use Rattle.gt_command_line.specs.Commands.{summary_option, trace_option, version_of, witness_of};
 
 use crate::invocation::{Exploration, Format};
@@ -56,10 +57,37 @@ fn diagram_of<'a>(sought: Option<Exploration<'a>>) -> Option<(Option<Exploration
         Some(Exploration::Decide { .. } | Exploration::Claims(_)) => None,
         Some(Exploration::Witness(_) | Exploration::Diagram(_)) => None,
         Some(Exploration::Summary | Exploration::Difference(_, _)) => None,
+        Some(Exploration::NeverState(_)) => None,
     }
 }
 
-/// Returns what is asked for in this form, with its format. Only a trace can be a diagram.
+// Returns whether a claim about states is asked for.
+fn is_of_states(sought: Option<Exploration<'_>>) -> bool
+    ensures { result ≡ is_of_states (option_map sought_by sought.entry) }
+{
+    match sought {
+        Some(Exploration::NeverState(_)) => true,
+        None => false,
+        Some(Exploration::Texts | Exploration::Witnesses) => false,
+        Some(Exploration::Decide { .. } | Exploration::Claims(_)) => false,
+        Some(Exploration::Witness(_) | Exploration::Trace(_) | Exploration::Diagram(_)) => false,
+        Some(Exploration::Summary | Exploration::Difference(_, _)) => false,
+    }
+}
+
+// Returns what is asked for in JSON, with its format. None for a claim about states.
+fn json_of<'a>(sought: Option<Exploration<'a>>) -> Option<(Option<Exploration<'a>>, Format)>
+    ensures { option_map (λ p. (option_map sought_by p.0, p.1)) result
+        ≡ json_of (option_map sought_by sought.entry) }
+{
+    if is_of_states(sought) {
+        return None;
+    }
+    Some((sought, Format::Json))
+}
+
+/// Returns what is asked for in this form, with its format. Only a trace can be a diagram, and a claim about states is
+/// answered in text only.
 pub(crate) fn formed<'a>(
     form: ExploreForm,
     sought: Option<Exploration<'a>>,
@@ -69,7 +97,7 @@ pub(crate) fn formed<'a>(
 {
     match form {
         ExploreForm::Text => Some((sought, Format::Text)),
-        ExploreForm::Json => Some((sought, Format::Json)),
+        ExploreForm::Json => json_of(sought),
         ExploreForm::Mermaid => diagram_of(sought),
     }
 }
@@ -144,6 +172,16 @@ pub(crate) fn trace_of<'a>(value: Option<&'a str>) -> Option<Option<Exploration<
     match value {
         None => Some(None),
         Some(word) => Some(Some(Exploration::Trace(number_of(word)?))),
+    }
+}
+
+/// Returns the claim about states, if one is given.
+pub(crate) fn state_claim_of<'a>(value: Option<&'a str>) -> Option<Option<Exploration<'a>>>
+    ensures { option_map (option_map sought_by) result ≡ state_option (option_map (λ v. v.now) value.entry) }
+{
+    match value {
+        None => Some(None),
+        Some(claim) => Some(Some(Exploration::NeverState(claim))),
     }
 }
 

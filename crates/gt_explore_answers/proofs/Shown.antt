@@ -47,6 +47,13 @@ pub two_joined : {E : Type 0} (r : Result (Unit {0}) E) (out a b first second : 
 two_joined (Err fault) out a b first second f s = tt
 two_joined (Ok done) out a b first second f s = s ∙ ap (λ (l : List ℕ). l ++ b) f ∙ append_assoc out a b
 
+-- three texts one after the other
+pub three_joined : {E : Type 0} (r : Result (Unit {0}) E) (out a b c first second third : List ℕ) → first ≡ out ++ a → second ≡ first ++ b → OnOk r (third ≡ second ++ c)
+    → OnOk r (third ≡ out ++ (a ++ (b ++ c)))
+three_joined (Err fault) out a b c first second third f s t = tt
+three_joined (Ok done) out a b c first second third f s t =
+    t ∙ ap (λ (l : List ℕ). l ++ c) (s ∙ ap (λ (l : List ℕ). l ++ b) f) ∙ append_assoc (out ++ a) b c ∙ append_assoc out a (b ++ c)
+
 -- an object, and then the rest
 pub object_first : (out object rest pushed : List ℕ) → pushed ≡ out ++ object → pushed ++ rest ≡ out ++ (object ++ rest)
 object_first out object rest pushed is = ap (λ (l : List ℕ). l ++ rest) is ∙ append_assoc out object rest

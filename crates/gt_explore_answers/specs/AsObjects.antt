@@ -8,10 +8,9 @@ use Rattle.gt_explore_verdict.specs.Judging.{VerdictMeans, judged, verdict_at}
 use Rattle.gt_explore_verdict.specs.declared.judging.Claim.{Claim}
 use Rattle.gt_explore_verdict.specs.declared.judging.Claim.TheVariants.{Find, Never, Always}
 use Rattle.gt_explore_verdict.specs.declared.judging.Verdict.{Verdict}
-use Rattle.gt_explore_answers.specs.Exploring.{GivesDiagram, MeansGiven, index_of_text, satisfied, verdict_of_all}
+use Rattle.gt_explore_answers.specs.Exploring.{MeansGiven, index_of_text, satisfied, verdict_of_all}
 use Rattle.gt_explore_answers.specs.Objects.{ShowsText, ShowsTexts, summary}
 use Rattle.gt_explore_answers.specs.Outputs.{Found}
-use Rattle.gt_explore_answers.specs.Tracing.{TracesText}
 use Rattle.gt_explore_answers.specs.declared.asking.ExploreRequest.{ExploreRequest}
 use Rattle.gt_explore_answers.specs.declared.asking.ExploreRequest.TheVariants as explore_requests
 
@@ -59,10 +58,6 @@ abbrev pub ShowsWitness : RunContents → ℕ → Showing
 ShowsWitness c number f verdict objects =
     (at : ℕ) × (number ≡ at + 1) × ShowsText c.head f true (Some at) objects × (verdict ≡ verdict_of_all f.whole)
 
--- the text of a number, and the moves of an order that gives it
-abbrev pub ShowsTrace : RunContents → ℕ → Showing
-ShowsTrace c number f verdict objects = TracesText c f number objects × (verdict ≡ verdict_of_all f.whole)
-
 -- the output and the verdict, by the request
 abbrev pub ShowsBy : RunContents → ℕ → ExploreRequest → List Op → Found → List ℕ → Verdict → Type 0
 ShowsBy c limit explore_requests.Texts conditions = ShowsObjects limit (ShowsAll c false)
@@ -71,5 +66,3 @@ ShowsBy c limit (explore_requests.Decide claim expression) conditions =
 ShowsBy c limit (explore_requests.Has given) conditions = ShowsObjects limit (ShowsGiven c given.now)
 ShowsBy c limit (explore_requests.Witness number) conditions = ShowsObjects limit (ShowsWitness c number)
 ShowsBy c limit explore_requests.Witnesses conditions = ShowsObjects limit (ShowsAll c true)
-ShowsBy c limit (explore_requests.Trace number) conditions = ShowsObjects limit (ShowsTrace c number)
-ShowsBy c limit (explore_requests.Diagram number) conditions = GivesDiagram c number

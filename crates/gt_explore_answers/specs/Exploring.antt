@@ -28,11 +28,9 @@ use Rattle.gt_explore_verdict.specs.declared.judging.Verdict.TheVariants.{Holds,
 use Rattle.gt_explore_answers.specs.Texts.{AreAscending, AreDifferentTexts, IsTextAmong}
 use Rattle.gt_explore_answers.specs.Outputs.{Found, counterexample_comment, heading, states_line, texts_output}
 use Rattle.gt_explore_answers.specs.Outputs.{witness_comment}
-use Rattle.gt_explore_answers.specs.Tracing.{IsDiagram, IsTrace, ShowsMoves}
 use Rattle.gt_explore_answers.specs.Witness.{IsWitness, ShowsAfter}
 use Rattle.gt_explore_answers.specs.declared.asking.ExploreRequest.{ExploreRequest}
 use Rattle.gt_explore_answers.specs.declared.asking.ExploreRequest.TheVariants as explore_requests
-use Rattle.gt_explore_trace.specs.declared.facts.TraceForm.{TraceForm}
 
 -- these are texts that a script may give, in the order of their bytes, each of them once, and all of them if the search
 -- is over
@@ -159,8 +157,6 @@ AreAsked c (explore_requests.Decide claim expression) conditions = AreConditions
 AreAsked c (explore_requests.Has given) conditions = Unit {0}
 AreAsked c (explore_requests.Witness number) conditions = Unit {0}
 AreAsked c explore_requests.Witnesses conditions = Unit {0}
-AreAsked c (explore_requests.Trace number) conditions = Unit {0}
-AreAsked c (explore_requests.Diagram number) conditions = Unit {0}
 
 -- the fault of the expression of a request; without one, only an allocation fails
 abbrev pub IsFaultAsked : RunContents → ExploreRequest → ExpressionFault → Type 0
@@ -175,8 +171,6 @@ has_its_text (explore_requests.Decide claim expression) count = true
 has_its_text (explore_requests.Has given) count = true
 has_its_text (explore_requests.Witness number) count = nat_lt 0 number && nat_le number count
 has_its_text explore_requests.Witnesses count = true
-has_its_text (explore_requests.Trace number) count = nat_lt 0 number && nat_le number count
-has_its_text (explore_requests.Diagram number) count = nat_lt 0 number && nat_le number count
 
 -- ---- the output and the verdict, for the texts that were found
 
@@ -205,18 +199,6 @@ GivesWitness c number f text verdict = IsWitness c.head f.texts number text × (
 abbrev pub GivesWitnesses : RunContents → Found → List ℕ → Verdict → Type 0
 GivesWitnesses c f text verdict = AreWitnessOutputs c f 0 f.texts text × (verdict ≡ verdict_of_all f.whole)
 
--- the moves of an order that gives the text of a number, by the form
-abbrev pub GivesMoves : RunContents → TraceForm → ℕ → Found → List ℕ → Verdict → Type 0
-GivesMoves c form number f text verdict = ShowsMoves c f number form text × (verdict ≡ verdict_of_all f.whole)
-
--- a line for each of these moves
-abbrev pub GivesTrace : RunContents → ℕ → Found → List ℕ → Verdict → Type 0
-GivesTrace c number f text verdict = IsTrace c f number text × (verdict ≡ verdict_of_all f.whole)
-
--- the moves as a sequence diagram
-abbrev pub GivesDiagram : RunContents → ℕ → Found → List ℕ → Verdict → Type 0
-GivesDiagram c number f text verdict = IsDiagram c f number text × (verdict ≡ verdict_of_all f.whole)
-
 -- the output and the verdict, by the request
 abbrev pub IsOutputBy : RunContents → ExploreRequest → List Op → Found → List ℕ → Verdict → Type 0
 IsOutputBy c explore_requests.Texts conditions = GivesTexts
@@ -224,5 +206,3 @@ IsOutputBy c (explore_requests.Decide claim expression) conditions = DecidesClai
 IsOutputBy c (explore_requests.Has given) conditions = NumbersText c given.now
 IsOutputBy c (explore_requests.Witness number) conditions = GivesWitness c number
 IsOutputBy c explore_requests.Witnesses conditions = GivesWitnesses c
-IsOutputBy c (explore_requests.Trace number) conditions = GivesTrace c number
-IsOutputBy c (explore_requests.Diagram number) conditions = GivesDiagram c number

@@ -85,5 +85,3 @@ refused_text c explore_requests.Texts f = None
 refused_text c (explore_requests.Decide claim expression) f = None
 refused_text c (explore_requests.Witness number) f = None
 refused_text c explore_requests.Witnesses f = None
-refused_text c (explore_requests.Trace number) f = None
-refused_text c (explore_requests.Diagram number) f = None

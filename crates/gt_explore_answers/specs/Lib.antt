@@ -5,5 +5,4 @@ pub mod Given
 pub mod Objects
 pub mod Outputs
 pub mod Texts
-pub mod Tracing
 pub mod Witness

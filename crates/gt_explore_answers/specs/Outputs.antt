@@ -20,6 +20,10 @@ unfoldable pub heading : Bool → ℕ → ℕ → List ℕ
 heading whole count number =
     codes "text " ++ decimal number ++ (if whole then codes " of " else codes " of at least ") ++ decimal count
 
+-- the same as a line
+abbrev pub heading_line : Found → ℕ → List ℕ
+heading_line f number = heading f.whole (length f.texts) number ++ codes "\n"
+
 -- a text under its number, if it is wanted
 abbrev pub text_shown : Bool → Bool → ℕ → ℕ → List ℕ → List ℕ
 text_shown wanted whole count number text = if wanted then heading whole count number ++ codes "\n" ++ text else []

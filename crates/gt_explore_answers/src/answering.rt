@@ -11,7 +11,7 @@ ghost use Rattle.gt_explore_answers.specs.Texts.{texts_of_orders};
 ghost use Rattle.gt_explore_verdict.specs.Judging.{verdict_at};
 ghost use Rattle.gt_explore_verdict.specs.declared.judging.Claim.TheVariants.{Find};
 ghost use Rattle.gt_explore_verdict.specs.declared.judging.Verdict.{Verdict};
-ghost use Rattle.gt_explore_answers.specs.Exploring.{AreTextsOf, DecidesClaim, GivesMoves, GivesTexts};
+ghost use Rattle.gt_explore_answers.specs.Exploring.{AreTextsOf, DecidesClaim, GivesTexts};
 ghost use Rattle.gt_explore_answers.specs.Exploring.{GivesWitness, GivesWitnesses, NumbersText};
 ghost use Rattle.gt_explore_answers.specs.Exploring.{IsOutputBy, IsClaimOutputBy, IsVerdictOutput, AreWitnessOutputs};
 ghost use Rattle.gt_explore_answers.specs.Exploring.{verdict_of_all};
@@ -20,15 +20,13 @@ ghost use Rattle.gt_explore_answers.specs.Witness.{IsUnplayableOutput, ShowsAfte
 
 use crate::asking::ExploreRequest;
 use crate::conditions::satisfied;
-use crate::found::FoundTexts;
+use crate::found::{FoundTexts, numbered};
 use crate::outputs::{
     push_counterexample, push_found_texts, push_place, push_unplayable, push_verdict,
     push_witness_comment,
 };
-use crate::tracing::{moves_shown, numbered};
 use gt_explore_faults::TextsFault;
 use gt_explore_search::FoundText;
-use gt_explore_trace::TraceForm;
 use gt_explore_verdict::{Claim, Judgement, Operation, Verdict, judge, verdict_at};
 use gt_explore_witness::{gives_answers, may_not_unmap, witness_of};
 use gt_script::RunScript;
@@ -331,31 +329,10 @@ fn witnesses(
     Ok(ExploreOutput { text, verdict })
 }
 
-/// Returns the moves that lead to the text of this number, in this form.
-///
-/// # Errors
-/// `Astray` if no text has this number, or if the order of the text does not lead to it; and `Memory`.
-pub fn moves_output(
-    alloc: Global,
-    form: TraceForm,
-    script: &RunScript,
-    found: &FoundTexts,
-    number: usize,
-) -> Result<ExploreOutput, TextsFault>
-    requires { CanConfigure (contents_of script.now.head) }
-    ensures { IfOk result (λ made. GivesMoves (run_contents script.now) form number (found_from found.now)
-        made.text.items made.verdict) }
-{
-    let text = moves_shown(alloc, form, script, found, number)?;
-    let verdict = verdict_of_all(found.whole);
-    Ok(ExploreOutput { text, verdict })
-}
-
 /// Answers a request about a script by the texts that were found. A claim is one on these conditions.
 ///
 /// # Errors
-/// `Astray` if no text has the number of the witness or of the trace, or if an order or a witness does not give its
-/// text; and `Memory`.
+/// `Astray` if no text has the number of the witness, or if a witness does not give its text; and `Memory`.
 pub fn answer_in_text(
     alloc: Global,
     request: ExploreRequest<'_>,
@@ -377,11 +354,5 @@ pub fn answer_in_text(
         ExploreRequest::Has(text) => number_of(alloc, found, text),
         ExploreRequest::Witness(number) => witness(alloc, source, script, found, number),
         ExploreRequest::Witnesses => witnesses(alloc, source, script, found),
-        ExploreRequest::Trace(number) => {
-            moves_output(alloc, TraceForm::Text, script, found, number)
-        }
-        ExploreRequest::Diagram(number) => {
-            moves_output(alloc, TraceForm::Mermaid, script, found, number)
-        }
     }
 }

@@ -15,10 +15,6 @@ pub enum ExploreRequest<'w> {
     Witness(usize),
     /// Print such a script for each text.
     Witnesses,
-    /// Print the moves that lead to the text of this number, a line each.
-    Trace(usize),
-    /// Print these moves as a sequence diagram of mermaid.
-    Diagram(usize),
 }
 
 /// The format of the output of `explore`.
@@ -26,8 +22,7 @@ pub enum ExploreRequest<'w> {
 pub enum ExploreFormat {
     /// Lines of text, and scripts for `play`.
     Text,
-    /// A JSON object a line: one for each text that is shown, and one at the end. A sequence diagram is the same in
-    /// both formats.
+    /// A JSON object a line: one for each text that is shown, and one at the end.
     Json,
 }
 

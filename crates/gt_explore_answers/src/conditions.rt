@@ -145,7 +145,6 @@ pub fn conditions_asked<'e>(
         ExploreRequest::Decide { expression, .. } => conditions_for(alloc, script, expression),
         ExploreRequest::Texts | ExploreRequest::Has(_) => Ok(Vec::new(alloc)),
         ExploreRequest::Witness(_) | ExploreRequest::Witnesses => Ok(Vec::new(alloc)),
-        ExploreRequest::Trace(_) | ExploreRequest::Diagram(_) => Ok(Vec::new(alloc)),
     }
 }
 

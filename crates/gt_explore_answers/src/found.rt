@@ -1,8 +1,11 @@
 //! Texts that were found.
-ghost use Rattle.std.specs.Prelude.{◌≡◌, length};
+ghost use Rattle.std.specs.Prelude.{◌≡◌, IfOk, length};
 ghost use Rattle.gt_explore_answers.specs.Exploring.{has_its_text};
+ghost use Rattle.gt_explore_answers.specs.Texts.{texts_of_orders};
+ghost use Rattle.gt_explore_answers.specs.Witness.{IsTextNumbered};
 
 use crate::asking::ExploreRequest;
+use gt_explore_faults::TextsFault;
 use gt_explore_search::FoundText;
 
 /// Texts that a script may give, each with turns that lead to it, in the order of their bytes, and the number of states
@@ -21,12 +24,27 @@ pub fn has_its_text(request: ExploreRequest<'_>, found: &FoundTexts) -> bool
     ensures { result ≡ has_its_text request.entry (length found.now.texts.items) }
 {
     match request {
-        ExploreRequest::Witness(number)
-        | ExploreRequest::Trace(number)
-        | ExploreRequest::Diagram(number) => number > 0 && number <= found.texts.len(),
+        ExploreRequest::Witness(number) => number > 0 && number <= found.texts.len(),
         ExploreRequest::Texts
         | ExploreRequest::Decide { .. }
         | ExploreRequest::Has(_)
         | ExploreRequest::Witnesses => true,
+    }
+}
+
+/// Returns the order of the text of this number.
+///
+/// # Errors
+/// `Astray` if no text has this number.
+pub fn numbered<'f>(found: &'f FoundTexts, number: usize) -> Result<&'f FoundText, TextsFault>
+    ensures { IfOk result (λ o.
+        IsTextNumbered (texts_of_orders found.entry.now.texts.items) number o.now.text.items) }
+{
+    let Some(at) = number.checked_sub(1) else {
+        return Err(TextsFault::Astray);
+    };
+    match found.texts.get(at) {
+        Some(order) => Ok(order),
+        None => Err(TextsFault::Astray),
     }
 }

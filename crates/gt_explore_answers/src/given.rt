@@ -199,6 +199,5 @@ pub fn refused_text(
         }
         ExploreRequest::Texts | ExploreRequest::Decide { .. } => Ok(None),
         ExploreRequest::Witness(_) | ExploreRequest::Witnesses => Ok(None),
-        ExploreRequest::Trace(_) | ExploreRequest::Diagram(_) => Ok(None),
     }
 }

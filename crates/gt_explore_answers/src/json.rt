@@ -3,17 +3,13 @@ ghost use Rattle.std.specs.Prelude.{◌≡◌, ◌++◌, IfOk};
 ghost use Rattle.gt_explore_answers.specs.Objects.{summary};
 ghost use Rattle.gt_explore_answers.specs.Outputs.{found_from};
 
-use crate::answering::{
-    ExploreOutput, moves_output, place_of, script_of, verdict_of_all, verdict_on,
-};
+use crate::answering::{ExploreOutput, place_of, script_of, verdict_of_all, verdict_on};
 use crate::asking::ExploreRequest;
 use crate::conditions::satisfied;
 use crate::found::FoundTexts;
 use crate::objects::{push_summary, push_text_object, push_witness_object};
-use crate::tracing::moves_shown;
 use gt_explore_faults::TextsFault;
 use gt_explore_search::FoundText;
-use gt_explore_trace::TraceForm;
 use gt_explore_verdict::{Claim, Operation, Verdict, judge};
 use gt_script::RunScript;
 use std::alloc::Global;
@@ -48,7 +44,7 @@ impl ObjectWriter<'_, '_> {
     ghost use Rattle.gt_script.specs.RunScripts.{CanConfigure};
     ghost use Rattle.gt_explore_verdict.specs.Formulas.{operation_asked};
     ghost use Rattle.gt_explore_answers.specs.AsObjects.{ShowsAll, ShowsBy, ShowsClaim, ShowsClaimedBy, ShowsGiven, ShowsObjects};
-    ghost use Rattle.gt_explore_answers.specs.AsObjects.{ShowsTrace, ShowsWitness};
+    ghost use Rattle.gt_explore_answers.specs.AsObjects.{ShowsWitness};
     ghost use Rattle.gt_explore_answers.specs.Exploring.{AreTextsOf};
     ghost use Rattle.gt_explore_answers.specs.Texts.{texts_of_orders};
     ghost use Rattle.gt_explore_answers.specs.Objects.{IsObject, IsObjectIf, ShowsText, ShowsTexts};
@@ -227,18 +223,7 @@ impl ObjectWriter<'_, '_> {
         ended(text, self.found, limit, verdict_of_all(self.found.whole))
     }
 
-    // Shows the text of this number, and the moves that lead to it.
-    fn traced(&self, limit: usize, number: usize) -> Result<ExploreOutput, TextsFault>
-        requires { CanConfigure (contents_of self.now.script.now.head) }
-        ensures { IfOk result (λ made. ShowsObjects limit (ShowsTrace (run_contents self.now.script.now) number)
-            (found_from self.now.found.now) made.text.items made.verdict) }
-    {
-        let text = moves_shown(self.alloc, TraceForm::Json, self.script, self.found, number)?;
-        ended(text, self.found, limit, verdict_of_all(self.found.whole))
-    }
-
-    /// Answers a request as JSON. A claim is one on these conditions. A sequence diagram is not JSON, and is returned
-    /// as it is.
+    /// Answers a request as JSON. A claim is one on these conditions.
     ///
     /// # Errors
     /// Those of `answer_in_text`.
@@ -259,16 +244,6 @@ impl ObjectWriter<'_, '_> {
             ExploreRequest::Has(given) => self.given(limit, given),
             ExploreRequest::Witness(number) => self.witness(limit, number),
             ExploreRequest::Witnesses => self.all(limit, true),
-            ExploreRequest::Trace(number) => self.traced(limit, number),
-            ExploreRequest::Diagram(number) => {
-                moves_output(
-                    self.alloc,
-                    TraceForm::Mermaid,
-                    self.script,
-                    self.found,
-                    number,
-                )
-            }
         }
     }
 }

@@ -1,15 +1,14 @@
 //! What `explore` prints of the texts found for a script: the answer to each request, as text and as JSON.
 //!
 //! [`conditions_asked`] reads the conditions of a request. [`answer_request`] returns the whole output and the verdict:
-//! the texts under their numbers, the verdict on a claim, the number of a text, scripts for `play` that give texts, or
-//! the moves that lead to one. It is given the texts; `gt_explore` finds them.
+//! the texts under their numbers, the verdict on a claim, the number of a text, or scripts for `play` that give texts. It
+//! is given the texts; `gt_explore` finds them. The moves that lead to a text are those of `gt_explore_tracing`.
 //!
 //! A script for `play` that is returned gives the answers of its text: it is played before, and the answers are
-//! compared (`gt_explore_witness`). Moves are made again on the core (`gt_explore_trace`). So no promise depends on how
-//! a script or an order was made. The definitions are in `specs/`.
+//! compared (`gt_explore_witness`). So no promise depends on how a script was made. The definitions are in `specs/`.
 //!
-//! It uses these two, `gt_explore_verdict` (conditions and verdicts), `gt_explore_replay` and `gt_explore_search`
-//! (orders), `gt_explore_faults`, `gt_script` and `gt_script_lines` (scripts), `gt_script_runs`, `gt_json`, `gt_text` and
+//! It also uses `gt_explore_verdict` (conditions and verdicts), `gt_explore_replay` and `gt_explore_search` (orders),
+//! `gt_explore_faults`, `gt_script` and `gt_script_lines` (scripts), `gt_script_runs`, `gt_json`, `gt_text` and
 //! `gt_types`.
 #![tactic(auto)]
 
@@ -22,15 +21,15 @@ mod given;
 mod json;
 mod objects;
 mod outputs;
-mod tracing;
 
 pub use answering::{ExploreOutput, verdict_of_all};
 pub use asking::{ExploreFormat, ExploreOptions, ExploreRequest};
 pub use conditions::{conditions_asked, satisfied};
 pub use formats::answer_request;
-pub use found::{FoundTexts, has_its_text};
+pub use found::{FoundTexts, has_its_text, numbered};
 pub use given::refused_text;
-pub use objects::push_summary;
+pub use objects::{push_summary, push_text_object};
 pub use outputs::{
-    push_counterexample, push_found_texts, push_heading, push_place, push_states_line, push_verdict,
+    push_counterexample, push_found_texts, push_heading, push_heading_line, push_place,
+    push_states_line, push_verdict,
 };

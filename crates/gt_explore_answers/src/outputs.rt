@@ -4,11 +4,10 @@ ghost use Rattle.std.specs.List.{flat_map};
 ghost use Rattle.gt_explore_answers.specs.Exploring.{number_output, verdict_line};
 ghost use Rattle.gt_explore_answers.specs.Outputs.{comment_byte, commented, counterexample_comment};
 ghost use Rattle.gt_explore_answers.specs.Outputs.{counterexample_lines};
-ghost use Rattle.gt_explore_answers.specs.Outputs.{found_from, heading};
+ghost use Rattle.gt_explore_answers.specs.Outputs.{found_from, heading, heading_line};
 ghost use Rattle.gt_explore_answers.specs.Outputs.{states_line, states_output, text_shown, texts_listed, texts_output};
 ghost use Rattle.gt_explore_answers.specs.Outputs.{unplayable_line, witness_comment};
 ghost use Rattle.gt_explore_answers.specs.Texts.{texts_of_orders};
-ghost use Rattle.gt_explore_answers.specs.Tracing.{heading_line};
 
 use crate::found::FoundTexts;
 use gt_explore_search::FoundText;

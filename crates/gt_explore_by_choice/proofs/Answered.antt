@@ -25,8 +25,8 @@ use Rattle.gt_explore_choices.specs.Choices.{IsChoiceOf}
 use Rattle.gt_explore_search.specs.declared.exploring.FoundText.{FoundText}
 use Rattle.gt_explore_verdict.specs.declared.judging.Verdict.{Verdict}
 use Rattle.gt_script.specs.RunScripts.{ReadsAsRun}
-use Rattle.gt_explore_united.specs.Possible.{AreTextsOfChoices, MayGiveByChoice}
-use Rattle.gt_explore_united.proofs.United.{given}
+use Rattle.gt_explore_by_choice.specs.Possible.{AreTextsOfChoices, MayGiveByChoice}
+use Rattle.gt_explore_by_choice.proofs.United.{given}
 use Rattle.gt_explore_verdict.specs.Formulas.{Op}
 use Rattle.gt_explore_verdict.specs.Judging.{judged, verdict_at}
 use Rattle.gt_explore_verdict.specs.declared.judging.Claim.{Claim}

@@ -16,8 +16,8 @@ use Rattle.gt_explore_faults.specs.declared.fault.ExploreFault.{ExploreFault}
 use Rattle.gt_explore_faults.specs.declared.fault.ExploreFault.TheVariants.{Play, Term, Text, Number, Unfound, Texts}
 use Rattle.gt_explore_by_choice.specs.Exploring.{AreChoicesOf, IsClaimsFault, IsExploreFault, IsFaultOfChoice, IsSearchFault}
 use Rattle.gt_explore_by_choice.specs.Exploring.{MakesOfChoices, MakesOnConditions, MakesOnExpression, expression_numbered, names_unread, request_expression}
-use Rattle.gt_explore_united.specs.Gathering.{IsFaultAmong, IsFaultOfText}
-use Rattle.gt_explore_united.proofs.United.{given}
+use Rattle.gt_explore_by_choice.specs.Gathering.{IsFaultAmong, IsFaultOfText}
+use Rattle.gt_explore_by_choice.proofs.United.{given}
 use Rattle.gt_explore_verdict.specs.Formulas.{Op}
 use Rattle.gt_explore_verdict.specs.declared.fault.ExpressionFault.{ExpressionFault}
 use Rattle.gt_explore_verdict.specs.declared.fault.ExpressionFault.TheVariants as expression_faults

@@ -1,2 +1,3 @@
 pub mod Answered
 mod Explored
+mod United

@@ -7,8 +7,8 @@ use Rattle.gt_explore_answers.specs.Outputs.{Found, counterexample_comment, stat
 use Rattle.gt_explore_answers.specs.Witness.{IsTextNumbered, ShowsAfter}
 use Rattle.gt_explore_answers.specs.declared.asking.ExploreRequest.{ExploreRequest}
 use Rattle.gt_explore_answers.specs.declared.asking.ExploreRequest.TheVariants as explore_requests
-use Rattle.gt_explore_united.specs.Gathering.{AreUnited}
-use Rattle.gt_explore_united.specs.Possible.{IsScriptByChoice, MayGiveByChoice}
+use Rattle.gt_explore_by_choice.specs.Gathering.{AreUnited}
+use Rattle.gt_explore_by_choice.specs.Possible.{IsScriptByChoice, MayGiveByChoice}
 use Rattle.gt_explore_verdict.specs.Formulas.{Op, formula_of}
 use Rattle.gt_explore_verdict.specs.Judging.{VerdictMeans, judged, verdict_at}
 use Rattle.gt_explore_verdict.specs.declared.judging.Claim.{Claim}
@@ -72,8 +72,6 @@ AnswersByChoices source (explore_requests.Decide claim expression) conditions = 
 AnswersByChoices source (explore_requests.Has given) conditions = NumbersByChoices source given.now
 AnswersByChoices source (explore_requests.Witness number) conditions = IsWitnessByChoice source number
 AnswersByChoices source explore_requests.Witnesses conditions = λ f out verdict. ⊥
-AnswersByChoices source (explore_requests.Trace number) conditions = λ f out verdict. ⊥
-AnswersByChoices source (explore_requests.Diagram number) conditions = λ f out verdict. ⊥
 
 -- the number of choices in which a domain waits for ever
 unfoldable pub waiting_comment : ℕ → List ℕ

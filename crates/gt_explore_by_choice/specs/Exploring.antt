@@ -28,7 +28,7 @@ use Rattle.gt_explore_faults.specs.declared.fault.ExploreFault.{ExploreFault}
 use Rattle.gt_explore_faults.specs.declared.fault.ExploreFault.TheVariants.{Play, Term, Text, Number, Unfound, Texts}
 use Rattle.gt_explore_faults.specs.declared.fault.TextsFault.TheVariants as texts_faults
 use Rattle.gt_explore_by_choice.specs.Answering.{IsOnConditions, LacksByChoices}
-use Rattle.gt_explore_united.specs.Gathering.{IsFaultOfText}
+use Rattle.gt_explore_by_choice.specs.Gathering.{IsFaultOfText}
 use Rattle.gt_explore_by_choice.specs.declared.fault.UnitedFault.{UnitedFault}
 use Rattle.gt_explore_by_choice.specs.declared.fault.UnitedFault.TheVariants.{Claims, Choices}
 use Rattle.gt_explore_verdict.specs.Formulas.{Op}
@@ -43,8 +43,6 @@ is_answered_in_text (explore_requests.Decide claim expression) = true
 is_answered_in_text (explore_requests.Has given) = true
 is_answered_in_text (explore_requests.Witness number) = true
 is_answered_in_text explore_requests.Witnesses = false
-is_answered_in_text (explore_requests.Trace number) = false
-is_answered_in_text (explore_requests.Diagram number) = false
 
 -- the request has an answer in this format
 abbrev pub has_answer : ExploreRequest → ExploreFormat → Bool
@@ -93,8 +91,6 @@ request_expression (explore_requests.Decide claim expression) = Some expression.
 request_expression (explore_requests.Has given) = None
 request_expression (explore_requests.Witness number) = None
 request_expression explore_requests.Witnesses = None
-request_expression (explore_requests.Trace number) = None
-request_expression (explore_requests.Diagram number) = None
 
 -- an expression with numbers in place of the names of calls; a `maybe` line names its call too
 abbrev pub expression_numbered : List ℕ → List ℕ → List ℕ

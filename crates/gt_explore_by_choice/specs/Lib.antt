@@ -1,2 +1,4 @@
 pub mod Answering
 pub mod Exploring
+pub mod Gathering
+pub mod Possible

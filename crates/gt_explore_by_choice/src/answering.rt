@@ -5,19 +5,19 @@ ghost use Rattle.std.specs.Option.{option_map};
 ghost use Rattle.std.specs.Str.{bytes_eq};
 ghost use Rattle.gt_explore_answers.specs.Exploring.{GivesTexts};
 ghost use Rattle.gt_explore_answers.specs.Outputs.{found_from};
-ghost use Rattle.gt_explore_answers.specs.Texts.{texts_of_orders};
-ghost use Rattle.gt_explore_answers.specs.Witness.{IsTextNumbered};
 ghost use Rattle.gt_explore_choices.specs.Choices.{IsChoiceOf};
 ghost use Rattle.gt_explore_by_choice.specs.Answering.{AnswersByChoices, DecidesByChoices, IsClaimByChoices};
 ghost use Rattle.gt_explore_by_choice.specs.Answering.{IsVerdictByChoices, IsWitnessByChoice, NumbersByChoices};
-ghost use Rattle.gt_explore_united.specs.Possible.{AreTextsOfChoices};
+ghost use Rattle.gt_explore_by_choice.specs.Possible.{AreTextsOfChoices};
 ghost use Rattle.gt_explore_verdict.specs.Formulas.{operation_asked};
 ghost use Rattle.gt_explore_verdict.specs.Judging.{verdict_at};
 ghost use Rattle.gt_explore_verdict.specs.declared.judging.Claim.TheVariants.{Find};
 
 use crate::listing::{counterexample_comment, place_shown, texts_output, verdict_shown};
 use crate::scripts::script_of;
-use gt_explore_answers::{ExploreOutput, ExploreRequest, FoundTexts, satisfied, verdict_of_all};
+use gt_explore_answers::{
+    ExploreOutput, ExploreRequest, FoundTexts, numbered, satisfied, verdict_of_all,
+};
 use gt_explore_choices::Choices;
 use gt_explore_faults::TextsFault;
 use gt_explore_search::FoundText;
@@ -149,20 +149,6 @@ fn number_of(alloc: Global, found: &FoundTexts, given: &[u8]) -> Result<ExploreO
     Ok(ExploreOutput { text, verdict })
 }
 
-// Returns the order of the text of this number. Fails with `Astray` if no text has it.
-fn numbered<'f>(found: &'f FoundTexts, number: usize) -> Result<&'f FoundText, TextsFault>
-    ensures { IfOk result (λ o.
-        IsTextNumbered (texts_of_orders found.entry.now.texts.items) number o.now.text.items) }
-{
-    let Some(at) = number.checked_sub(1) else {
-        return Err(TextsFault::Astray);
-    };
-    match found.texts.get(at) {
-        Some(order) => Ok(order),
-        None => Err(TextsFault::Astray),
-    }
-}
-
 // Returns a script for `play` that gives the text of this number, or the line in its place.
 fn witness(
     alloc: Global,
@@ -182,8 +168,8 @@ fn witness(
 /// Answers a request about a script with choices by the texts that were found.
 ///
 /// # Errors
-/// `Astray` if no text has the number of the witness, if an order does not lead to its text, or for a request that
-/// has no answer for such a script; and `Memory`.
+/// `Astray` if no text has the number of the witness, if an order does not lead to its text, or for scripts for `play`
+/// for all texts, which have no answer for such a script; and `Memory`.
 pub fn answer(
     alloc: Global,
     request: ExploreRequest<'_>,
@@ -203,8 +189,6 @@ pub fn answer(
         }
         ExploreRequest::Has(text) => number_of(alloc, found, text),
         ExploreRequest::Witness(number) => witness(alloc, choices, found, number),
-        ExploreRequest::Witnesses | ExploreRequest::Trace(_) | ExploreRequest::Diagram(_) => {
-            Err(TextsFault::Astray)
-        }
+        ExploreRequest::Witnesses => Err(TextsFault::Astray),
     }
 }

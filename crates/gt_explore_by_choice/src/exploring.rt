@@ -24,8 +24,7 @@ fn is_answered_in_text(request: ExploreRequest<'_>) -> bool
     match request {
         ExploreRequest::Texts | ExploreRequest::Decide { .. } => true,
         ExploreRequest::Has(_) | ExploreRequest::Witness(_) => true,
-        ExploreRequest::Witnesses | ExploreRequest::Trace(_) => false,
-        ExploreRequest::Diagram(_) => false,
+        ExploreRequest::Witnesses => false,
     }
 }
 

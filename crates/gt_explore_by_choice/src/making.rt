@@ -7,7 +7,7 @@ ghost use Rattle.gt_explore_answers.specs.Exploring.{AreConditions, IsExpression
 ghost use Rattle.gt_explore_answers.specs.Outputs.{found_from};
 ghost use Rattle.gt_explore_choices.specs.Choices.{whole_text};
 ghost use Rattle.gt_explore_faults.specs.declared.fault.ExploreFault.TheVariants.{Number, Unfound};
-ghost use Rattle.gt_explore_united.specs.Gathering.{AreUnited};
+ghost use Rattle.gt_explore_by_choice.specs.Gathering.{AreUnited};
 ghost use Rattle.gt_explore_verdict.specs.Formulas.{operation_asked};
 ghost use Rattle.gt_explore_by_choice.specs.Answering.{IsOnConditions};
 ghost use Rattle.gt_explore_by_choice.specs.Exploring.{AreChoicesOf, MakesOfChoices, MakesOnConditions};
@@ -15,6 +15,7 @@ ghost use Rattle.gt_explore_by_choice.specs.Exploring.{MakesOnExpression, expres
 
 use crate::answering::answer;
 use crate::listing::push_waiting;
+use crate::uniting::{UnitedTexts, texts_of_choices};
 use gt_call_names::{NameFault, numbered};
 use gt_explore_answers::{
     ExploreOptions, ExploreOutput, ExploreRequest, conditions_asked, has_its_text,
@@ -22,7 +23,6 @@ use gt_explore_answers::{
 use gt_explore_choices::Choices;
 use gt_explore_faults::{ClaimsFault, ExploreFault, TextsFault};
 use gt_explore_search::SearchWatch;
-use gt_explore_united::{UnitedTexts, texts_of_choices};
 use gt_explore_verdict::{Claim, ExpressionFault, Operation};
 use gt_script::RunScript;
 use gt_text::text_of;
@@ -187,8 +187,8 @@ fn expression_of<'e>(request: ExploreRequest<'e>) -> Option<&'e str>
 {
     match request {
         ExploreRequest::Decide { expression, .. } => Some(expression),
-        ExploreRequest::Texts | ExploreRequest::Has(_) | ExploreRequest::Witness(_) => None,
-        ExploreRequest::Witnesses | ExploreRequest::Trace(_) | ExploreRequest::Diagram(_) => None,
+        ExploreRequest::Texts | ExploreRequest::Has(_) => None,
+        ExploreRequest::Witness(_) | ExploreRequest::Witnesses => None,
     }
 }
 

@@ -51,8 +51,6 @@ with_numbers input (explore_requests.Decide claim e) = explore_requests.Decide c
 with_numbers input (explore_requests.Has given) = explore_requests.Has given
 with_numbers input (explore_requests.Witness number) = explore_requests.Witness number
 with_numbers input explore_requests.Witnesses = explore_requests.Witnesses
-with_numbers input (explore_requests.Trace number) = explore_requests.Trace number
-with_numbers input (explore_requests.Diagram number) = explore_requests.Diagram number
 
 are_numbers : (input : List ℕ) (r : ExploreRequest) → IsNamedRequest input r (with_numbers input r)
 are_numbers input explore_requests.Texts = refl
@@ -60,8 +58,6 @@ are_numbers input (explore_requests.Decide claim e) = (lines_in (take READ_LIMIT
 are_numbers input (explore_requests.Has given) = refl
 are_numbers input (explore_requests.Witness number) = refl
 are_numbers input explore_requests.Witnesses = refl
-are_numbers input (explore_requests.Trace number) = refl
-are_numbers input (explore_requests.Diagram number) = refl
 
 some_named : (input : List ℕ) (asked : ExploreOptions) → (named : ExploreOptions) × AreOptionsNamed input asked named
 some_named input asked = (

@@ -50,8 +50,6 @@ IsDecision claim text (explore_requests.Decide kind expression) = (kind ≡ clai
 IsDecision claim text (explore_requests.Has given) = ⊥
 IsDecision claim text (explore_requests.Witness number) = ⊥
 IsDecision claim text explore_requests.Witnesses = ⊥
-IsDecision claim text (explore_requests.Trace number) = ⊥
-IsDecision claim text (explore_requests.Diagram number) = ⊥
 
 -- the second request is the first with the numbers of lines in place of names
 abbrev pub IsNamedRequest : List ℕ → ExploreRequest → ExploreRequest → Type 0
@@ -62,8 +60,6 @@ IsNamedRequest input explore_requests.Texts request = request ≡ explore_reques
 IsNamedRequest input (explore_requests.Has given) request = request ≡ explore_requests.Has given
 IsNamedRequest input (explore_requests.Witness number) request = request ≡ explore_requests.Witness number
 IsNamedRequest input explore_requests.Witnesses request = request ≡ explore_requests.Witnesses
-IsNamedRequest input (explore_requests.Trace number) request = request ≡ explore_requests.Trace number
-IsNamedRequest input (explore_requests.Diagram number) request = request ≡ explore_requests.Diagram number
 
 pub record AreOptionsNamed (input : List ℕ) (asked named : ExploreOptions) : Type 0 where
   pub request : IsNamedRequest input asked.request named.request
@@ -79,8 +75,6 @@ NamesTwice input explore_requests.Texts both = ⊥
 NamesTwice input (explore_requests.Has given) both = ⊥
 NamesTwice input (explore_requests.Witness number) both = ⊥
 NamesTwice input explore_requests.Witnesses both = ⊥
-NamesTwice input (explore_requests.Trace number) both = ⊥
-NamesTwice input (explore_requests.Diagram number) both = ⊥
 
 -- what was written: what `explore` writes for the request with numbers in place of names
 abbrev pub NamedExplored : ExploreOptions → List ℕ → Option (List ℕ) → Option (List ℕ) → Result Verdict ClaimsFault

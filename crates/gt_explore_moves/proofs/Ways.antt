@@ -35,7 +35,8 @@ legal-at s g (did f z ∷ hs) e y more p = legal-at s (grown g z) hs e y more p.
 legal-at s g (raised d flag ∷ hs) e y more p = legal-at s g hs e y more p
 legal-at s g (passed d flag ∷ hs) e y more p = legal-at s g hs e y more p
 
-may-follow : (c : RunContents) (before : List Happening) (x : Happening) (more : List Happening) (text : List ℕ) → IsOrderOf c (before ++ x ∷ more) text → CanComeNext (setting_of_script c.head) before x
+-- the next happening of an order may follow those before it
+pub may-follow : (c : RunContents) (before : List Happening) (x : Happening) (more : List Happening) (text : List ℕ) → IsOrderOf c (before ++ x ∷ more) text → CanComeNext (setting_of_script c.head) before x
 may-follow c before (did e y) more text order = legal-at (setting_of_script c.head) [] before e y more order.legal
 may-follow c before (raised d flag) more text order = tt
 may-follow c before (passed d flag) more text order =

@@ -9,6 +9,8 @@
 //! specs/Spaces.antt). Nothing is claimed of the turns: replay them on the core (`gt_explore_replay`) to see what they
 //! lead to.
 //!
+//! A [`SearchContext`] is the space itself, for a search of another kind: `every_turn` leaves out no move of a state.
+//!
 //! It uses `gt_explore_search` (the search), `gt_calls` (the steps of calls), `gt_explore_state` (words and bytes, and
 //! equality of calls), `gt_script_runs` (what lines ask and print), `gt_script` and `gt_script_lines` (scripts),
 //! `gt_core` (answers), `gt_entry`, `gt_roster` and `gt_types`. Its definitions also name `gt_explore_replay` (orders
@@ -37,4 +39,6 @@ pub use laws::{
     steps_that_touch_apart_are_apart,
 };
 pub use partial::search_within;
+pub use parts::StatePart;
+pub use scene::{SearchContext, SearchState};
 pub use searching::search;

@@ -3,10 +3,10 @@ use Rattle.std.specs.Prelude.{◌≡◌, ◌++◌, ◌-◌, ◌&&◌, ℕ, Bool,
 use Rattle.std.specs.Prelude.{nat_le}
 use Rattle.std.specs.Prelude.{nat_lt, slice_index_or}
 use Rattle.gt_script.specs.RunContents.{RunContents}
-use Rattle.gt_explore_columns.specs.Columns.{split_lines}
-use Rattle.gt_explore_columns.specs.Written.{difference_written, summary_written}
-use Rattle.gt_explore_columns.specs.declared.written.ColumnForm.{ColumnForm}
-use Rattle.gt_explore_columns.specs.declared.written.ColumnForm.TheVariants as column_forms
+use Rattle.gt_explore_summary.specs.Columns.{split_lines}
+use Rattle.gt_explore_summary.specs.Lines.{difference_written, summary_written}
+use Rattle.gt_explore_summary.specs.declared.lines.ColumnForm.{ColumnForm}
+use Rattle.gt_explore_summary.specs.declared.lines.ColumnForm.TheVariants as column_forms
 use Rattle.gt_explore_verdict.specs.declared.judging.Verdict.{Verdict}
 use Rattle.gt_explore_answers.specs.Exploring.{AreTextsOf, verdict_of_all}
 use Rattle.gt_explore_answers.specs.Objects.{summary}

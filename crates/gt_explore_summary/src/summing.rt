@@ -1,8 +1,8 @@
 //! The output for texts that were found.
 ghost use Rattle.std.specs.Prelude.{◌≡◌, ◌++◌, ◌∷◌, ◌-◌, ◌&&◌, [], codes, decimal, IfOk, OnOk, length, map, true};
 ghost use Rattle.std.specs.Prelude.{slice_index_or};
-ghost use Rattle.gt_explore_columns.specs.Columns.{filled_lines, split_lines};
-ghost use Rattle.gt_explore_columns.specs.Written.{difference_written};
+ghost use Rattle.gt_explore_summary.specs.Columns.{filled_lines, split_lines};
+ghost use Rattle.gt_explore_summary.specs.Lines.{difference_written};
 ghost use Rattle.gt_explore_answers.specs.Exploring.{verdict_of_all};
 ghost use Rattle.gt_explore_answers.specs.Outputs.{found_from, heading};
 ghost use Rattle.gt_explore_answers.specs.Texts.{texts_of_orders};
@@ -11,10 +11,11 @@ ghost use Rattle.gt_explore_summary.specs.Summing.{search_ended};
 ghost use Rattle.gt_explore_summary.specs.Summing.{summed, text_numbered};
 
 use crate::asking::{SummaryOptions, SummaryRequest};
+use crate::columns::{TextLines, split_lines};
+use crate::lines::{ColumnForm, push_difference, push_summary_lines};
 use gt_explore_answers::{
     ExploreFormat, ExploreOutput, FoundTexts, push_heading, push_states_line, push_summary,
 };
-use gt_explore_columns::{ColumnForm, TextLines, push_difference, push_summary_lines, split_lines};
 use gt_explore_search::FoundText;
 use gt_explore_verdict::Verdict;
 use gt_text::{push_number, push_text};

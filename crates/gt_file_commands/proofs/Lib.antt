@@ -1,3 +1,4 @@
+pub mod FlowAnswers
 pub mod FormatLemmas
 pub mod GivenLemmas
 pub mod JsonLemmas

@@ -3,8 +3,8 @@ use Rattle.std.proofs.Common.{◌≡◌, ℕ, Bool, List, Option, None, Some, Re
 use Rattle.std.proofs.Common.{false}
 use Rattle.gt_text.specs.Streams.{OfInput}
 use Rattle.gt_check_command.specs.declared.explaining.WhyRequest.{WhyRequest}
-use Rattle.gt_policy_flow.specs.declared.asking.FlowQuestion.{FlowQuestion}
-use Rattle.gt_policy_flow.specs.declared.format.FlowFormat.{FlowFormat}
+use Rattle.gt_policy_questions.specs.declared.flows.asking.FlowQuestion.{FlowQuestion}
+use Rattle.gt_policy_questions.specs.declared.flows.format.FlowFormat.{FlowFormat}
 use Rattle.gt_entries.specs.declared.asked.DumpOptions.{DumpOptions}
 use Rattle.gt_command_line.specs.declared.invocation.Format.{Format}
 use Rattle.gt_findings.specs.declared.report.ReportForm.{ReportForm}

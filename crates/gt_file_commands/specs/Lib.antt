@@ -1,4 +1,7 @@
 pub mod AsJson
+pub mod FlowAnswers
+pub mod FlowBlocks
+pub mod FlowFaults
 pub mod Flows
 pub mod Formats
 pub mod JsonNames

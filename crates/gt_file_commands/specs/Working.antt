@@ -13,10 +13,11 @@ use Rattle.gt_file_commands.specs.Prelude.{type_of, words, play_fault_text, clai
 use Rattle.gt_file_commands.specs.Prelude.{why_fault_text, breach_fault_text, dump_fault_text, read_word}
 use Rattle.gt_file_commands.specs.Prelude.{CheckKind, Failure, Outcome, ReportForm, Work, No, Unknown, Yes}
 use Rattle.gt_explore_choices.specs.Choices.{choices_fault_text}
-use Rattle.gt_policy_flow.specs.Blocks.{FlowedAs}
-use Rattle.gt_policy_flow.specs.Faults.{flow_fault_text}
-use Rattle.gt_policy_flow.specs.declared.asking.FlowQuestion.{FlowQuestion}
-use Rattle.gt_policy_flow.specs.declared.format.FlowFormat.{FlowFormat}
+use Rattle.gt_state_claims.specs.Faults.{state_claim_fault_text}
+use Rattle.gt_file_commands.specs.FlowBlocks.{FlowedAs}
+use Rattle.gt_file_commands.specs.FlowFaults.{flow_fault_text}
+use Rattle.gt_policy_questions.specs.declared.flows.asking.FlowQuestion.{FlowQuestion}
+use Rattle.gt_policy_questions.specs.declared.flows.format.FlowFormat.{FlowFormat}
 use Rattle.gt_file_commands.specs.declared.checking.CheckKind.TheVariants as check_kinds
 use Rattle.gt_file_commands.specs.declared.commands.Work.TheVariants as works
 use Rattle.gt_file_commands.specs.declared.failure.Failure.TheVariants as failures
@@ -27,6 +28,7 @@ failure_text (failures.Play fault) = codes "gthost: " ++ play_fault_text fault
 failure_text failures.Thread = codes "gthost: thread"
 failure_text (failures.Explore fault) = codes "gthost: " ++ claims_fault_text fault
 failure_text (failures.Choices fault) = codes "gthost: " ++ choices_fault_text fault
+failure_text (failures.State fault) = codes "gthost: " ++ state_claim_fault_text fault
 failure_text (failures.List fault) = codes "gthost: " ++ listing_fault_text fault
 failure_text (failures.Why fault) = codes "gthost: " ++ why_fault_text fault
 failure_text (failures.Flow fault) = codes "gthost: " ++ flow_fault_text fault

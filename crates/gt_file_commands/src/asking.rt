@@ -12,7 +12,7 @@ use crate::texts::TextSource;
 use gt_check_command::WhyRequest;
 use gt_command_line::{EntriesOptions, Format, ScriptOptions};
 use gt_entries::DumpOptions;
-use gt_policy_flow::FlowQuestion;
+use gt_policy_questions::FlowQuestion;
 use gt_types::DomId;
 use std::io::Write;
 

@@ -18,7 +18,7 @@ use crate::texts::{TextSource, read_fault};
 use gt_check_command::WhyRequest;
 use gt_command_line::Format;
 use gt_entries::DumpOptions;
-use gt_policy_flow::FlowQuestion;
+use gt_policy_questions::FlowQuestion;
 use std::alloc::Global;
 use std::io::{Read, Write};
 

@@ -1,11 +1,12 @@
 //! Failures of commands.
+use crate::flows::fault::FlowFault;
 use gt_check_command::{BreachFault, WhyFault};
 use gt_entries::DumpFault;
 use gt_explore_choices::ChoicesFault;
 use gt_explore_faults::ClaimsFault;
-use gt_policy_flow::FlowFault;
 use gt_policy_list::ListingFault;
 use gt_script_runs::PlayFault;
+use gt_state_claims::StateClaimFault;
 use gt_text::{ReadFault, WriteFault};
 use std::fmt;
 
@@ -20,6 +21,8 @@ pub enum Failure {
     Explore(ClaimsFault),
     /// The choices of a script were not explored. Nothing was written.
     Choices(ChoicesFault),
+    /// A text is not a claim about the states of a script. Nothing was written.
+    State(StateClaimFault),
     /// A policy was not listed, or a policy or a script not checked, to its end; a further text is not UTF-8; or the
     /// line before an answer was not written.
     List(ListingFault),
@@ -52,6 +55,7 @@ impl fmt::Display for Failure {
             Failure::Thread => f.write_str("gthost: thread"),
             Failure::Explore(fault) => write!(f, "gthost: {fault}"),
             Failure::Choices(fault) => write!(f, "gthost: {fault}"),
+            Failure::State(fault) => write!(f, "gthost: {fault}"),
             Failure::List(fault) => write!(f, "gthost: {fault}"),
             Failure::Why(fault) => write!(f, "gthost: {fault}"),
             Failure::Flow(fault) => write!(f, "gthost: {fault}"),

@@ -10,10 +10,10 @@
 //! and the command line are in `gt_program`: their failures and outcomes are of the same types.
 //!
 //! It uses `gt_command_line` (plans), `gt_host`, `gt_policy_list`, `gt_check_command` and `gt_entries` (the commands),
-//! `gt_json` (the JSON of a text), `gt_explore_choices` (faults of choices), `gt_fault_reasons` (the words for scripts
-//! and policies), `gt_policy_statements` and `gt_findings` (questions and findings), `gt_policy_flow` (flows),
-//! `gt_script_runs`, `gt_policy` and `gt_explore_faults` (faults), `gt_script_lines` (words), `gt_text` and `gt_types`.
-//! Its definitions also name `gt_script`.
+//! `gt_json` (the JSON of a text), `gt_explore_choices` and `gt_state_claims` (faults of choices and of claims about
+//! states), `gt_fault_reasons` (the words for scripts and policies), `gt_policy_statements` and `gt_findings` (questions
+//! and findings), `gt_policy_questions` (flows), `gt_script_runs`, `gt_policy` and `gt_explore_faults` (faults),
+//! `gt_script_lines` (words), `gt_text` and `gt_types`. Its definitions also name `gt_script`.
 #![tactic(auto)]
 
 mod asking;
@@ -38,6 +38,7 @@ pub use asking::{answer, list, play, show_entries, show_flow};
 pub use checking::{check_files, check_never_files};
 pub use commands::Context;
 pub use failure::Failure;
+pub use flows::fault::FlowFault;
 pub use flows::flow_format;
 pub use given::read_given;
 pub use outcome::{Outcome, outcome_of};

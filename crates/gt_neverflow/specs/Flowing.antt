@@ -10,8 +10,8 @@ use Rattle.gt_policy.specs.Allowing.{Meaning}
 use Rattle.gt_policy.specs.declared.lined.LinedStatement.{LinedStatement}
 use Rattle.gt_policy_statements.specs.Members.{members_of}
 use Rattle.gt_policy_statements.specs.declared.members.Member.{Member}
-use Rattle.gt_policy_pairs.specs.Listing.{pair_type_name}
-use Rattle.gt_policy_pairs.specs.Pairs.{pair_policy}
+use Rattle.gt_policy_questions.specs.Listing.{pair_type_name}
+use Rattle.gt_policy_questions.specs.Pairs.{pair_policy}
 use Rattle.gt_neverallow.specs.Breaking.{chosen_by, short_name}
 use Rattle.gt_neverallow.specs.declared.statement.Forbidden.{Forbidden}
 use Rattle.gt_neverallow.specs.declared.statement.Forbidden.TheVariants.{Flow, Grants}

@@ -16,7 +16,7 @@ use gt_allow::AllowTable;
 use gt_flow::{ReachedTypes, search};
 use gt_neverallow::{Forbidden, NeverStatement, TypeChoice, is_chosen, push_short_name};
 use gt_policy::{LinedStatement, Policy, PolicyFault, PolicyFaultKind};
-use gt_policy_pairs::pair_type_name;
+use gt_policy_questions::pair_type_name;
 use gt_policy_statements::{Member, members_of};
 use gt_text::push_text;
 use gt_types::{Allows, Memory, TypeId};

@@ -9,7 +9,7 @@
 //! Each is printed once, in their order.
 //!
 //! It uses `gt_neverallow` (the statements, their faults, and the breaches of `neverallow` statements), `gt_flow`
-//! (paths), `gt_policy_pairs` (names of types), `gt_policy` and `gt_allow` (the policy and its table),
+//! (paths), `gt_policy_questions` (names of types), `gt_policy` and `gt_allow` (the policy and its table),
 //! `gt_policy_statements` (types), `gt_findings` (findings), `gt_types` and `gt_text` (text).
 #![tactic(auto)]
 

@@ -1,6 +1,6 @@
 -- From the plan of a command line, or its refusal, to the outcome of the line.
 use Rattle.std.proofs.Common.{◌≡◌, ◌∙◌, ℕ, Bool, List, Option, None, Some, Result, refl, sym, subst, inl}
-use Rattle.std.proofs.Common.{inr, true, false, codes, cond, ◌∷◌, [], ap, Ok, ◌==◌, ◌⊎◌, arith}
+use Rattle.std.proofs.Common.{inr, true, false, codes, cond, ◌∷◌, [], ap, Err, Ok, ◌==◌, ◌⊎◌, arith}
 use Rattle.std.specs.Io.KnownBytes.{Appends, Keeps}
 use Rattle.std.proofs.lemmas.List.{append-nil}
 use Rattle.std.specs.Prelude.{◌++◌, drop, if◌then◌else◌}
@@ -50,7 +50,8 @@ use Rattle.gt_file_commands.specs.declared.outcome.Outcome.{Outcome}
 use Rattle.gt_file_commands.specs.declared.outcome.Outcome.TheVariants.{No, Unknown, Yes}
 use Rattle.gt_program.specs.Runs.{RunsDomains}
 use Rattle.gt_program.specs.Obeying.{AnswersVerdict, FitsKind, AsksAboutText, IsAskedFor, IsHelped, Obeys}
-use Rattle.gt_program.specs.Obeying.{Searches, Seeks}
+use Rattle.gt_program.specs.Obeying.{Searches, SearchesTexts, Seeks, explored_ending}
+use Rattle.gt_explore_faults.specs.declared.claims.ClaimsFault.{ClaimsFault}
 use Rattle.gt_program.specs.Obeying.{SeeksText, explore_format, failed_command, failed_mode, failed_word, first_word}
 use Rattle.gt_program.specs.Obeying.{verdict_outcome}
 
@@ -62,6 +63,14 @@ verdict_one Wrote Undecided wrote = wrote
 
 pub verdict_answer : {F : Type 0} (Wrote : Result Verdict F → Type 0) (verdict : Verdict) (outcome : Outcome) → outcome ≡ verdict_outcome verdict → Wrote (Ok verdict) → AnswersVerdict Wrote outcome
 verdict_answer Wrote verdict outcome is wrote = subst (AnswersVerdict Wrote) (sym is) (verdict_one Wrote verdict wrote)
+
+-- texts were explored, with this ending
+explored_one : (Wrote : Result Verdict ClaimsFault → Type 0) (r : Result Verdict ClaimsFault) → Wrote r → SearchesTexts Wrote (explored_ending r)
+explored_one Wrote (Ok verdict) wrote = verdict_one Wrote verdict wrote
+explored_one Wrote (Err fault) wrote = wrote
+
+pub explored_so : (Wrote : Result Verdict ClaimsFault → Type 0) (r : Result Verdict ClaimsFault) (ending : Ending) → ending ≡ explored_ending r → Wrote r → SearchesTexts Wrote ending
+explored_so Wrote r ending is wrote = subst (SearchesTexts Wrote) (sym is) (explored_one Wrote r wrote)
 
 -- what a plan asks for is done
 pub as_planned : (p same : Invocation) (failed : Outcome) (width : Option ℕ) (file : List ℕ → Option (List ℕ)) (input old new : Option (List ℕ)) (outcome : Outcome) → p ≡ same → Obeys (asked_by_plan same) failed width file input old new outcome

@@ -7,6 +7,8 @@ use Rattle.gt_explore.specs.Writing.{Explored}
 use Rattle.gt_explore_answers.specs.Outputs.{Found}
 use Rattle.gt_explore_answers.specs.Texts.{IsTextAmong}
 use Rattle.gt_explore_answers.specs.declared.asking.ExploreOptions.{ExploreOptions}
+use Rattle.gt_explore_tracing.specs.Writing.{Traced}
+use Rattle.gt_explore_tracing.specs.declared.asking.TraceOptions.{TraceOptions}
 use Rattle.gt_explore_verdict.specs.declared.judging.Verdict.{Verdict}
 use Rattle.gt_linearization.specs.Printed.{IsUndisturbed}
 use Rattle.gt_linearization.specs.Running.{RanInOrder}
@@ -18,6 +20,10 @@ RunWrote refuses logged input old new = RanInOrder refuses logged (ReadsAsRun in
 -- the output of `explore` at Ok, for these bytes
 abbrev pub ExploreWrote : ExploreOptions → List ℕ → Option (List ℕ) → Option (List ℕ) → Verdict → Type 0
 ExploreWrote asked input old new verdict = Explored asked (ReadsAsRun input) old new (Ok verdict)
+
+-- the same for moves
+abbrev pub MovesWrote : TraceOptions → List ℕ → Option (List ℕ) → Option (List ℕ) → Verdict → Type 0
+MovesWrote asked input old new verdict = Traced asked (ReadsAsRun input) old new (Ok verdict)
 
 module _ (refuses : ℕ → Bool) (logged : Bool) (input : List ℕ) (old new : Option (List ℕ)) where
   -- the script of a run
@@ -33,6 +39,10 @@ abbrev pub texts_explored : (asked : ExploreOptions) (input : List ℕ) (old new
     → ExploreWrote asked input old new verdict → Found
 texts_explored asked input old new verdict explored = explored.2.1.found
 
+abbrev pub texts_traced : (asked : TraceOptions) (input : List ℕ) (old new : Option (List ℕ)) (verdict : Verdict)
+    → MovesWrote asked input old new verdict → Found
+texts_traced asked input old new verdict traced = traced.2.1.found
+
 -- If `run` wrote a text for these bytes, and the search of `explore` for the same bytes met all states, that text is
 -- among those that `explore` found. No line of the text may have N26, and no list may have stopped at a flag that its
 -- gate refused.
@@ -43,5 +53,16 @@ RunsAreAmongTheExplored =
     (ran : RunWrote refuses logged input old new) (explored : ExploreWrote asked input before after verdict)
     → let text = text_run refuses logged input old new ran in
     let found = texts_explored asked input before after verdict explored in
+    IsUndisturbed refuses (type_names (script_run refuses logged input old new ran).head) text
+    → found.whole ≡ true → IsTextAmong text found.texts
+
+-- the same of the texts that an exploration for moves found
+abbrev pub RunsAreAmongTheTraced : Type 0
+RunsAreAmongTheTraced =
+    (input : List ℕ) (refuses : ℕ → Bool) (logged : Bool) (old new : Option (List ℕ))
+    (asked : TraceOptions) (before after : Option (List ℕ)) (verdict : Verdict)
+    (ran : RunWrote refuses logged input old new) (traced : MovesWrote asked input before after verdict)
+    → let text = text_run refuses logged input old new ran in
+    let found = texts_traced asked input before after verdict traced in
     IsUndisturbed refuses (type_names (script_run refuses logged input old new ran).head) text
     → found.whole ≡ true → IsTextAmong text found.texts

@@ -10,9 +10,10 @@ use Rattle.gt_program.specs.Prelude.{to_list, to_play, to_run, to_tell_entries, 
 use Rattle.gt_program.specs.Prelude.{nothing, to_show_flow, mode_of, Sought, all_texts, a_claim, one_script, one_trace}
 use Rattle.gt_program.specs.Prelude.{one_diagram, all_scripts, several_claims, ExploreOptions, ExploreFormat}
 use Rattle.gt_program.specs.Prelude.{ClaimsFault}
-use Rattle.gt_program.specs.Prelude.{ClaimsExplored, NamedExplored, SearchAsked, One, Several, Together}
-use Rattle.gt_program.specs.Prelude.{Summarized, SummaryOptions, SummaryRequest, Answers, Difference, a_summary}
-use Rattle.gt_program.specs.Prelude.{a_difference, ReadsAsRun}
+use Rattle.gt_program.specs.Prelude.{ClaimsExplored, NamedExplored, SearchAsked, Moment, Moves, One, Several}
+use Rattle.gt_program.specs.Prelude.{Together, Summarized, SummaryOptions, SummaryRequest, Answers, Difference}
+use Rattle.gt_program.specs.Prelude.{a_summary, a_difference, a_state_claim, ReadsAsRun, Traced, TraceOptions}
+use Rattle.gt_program.specs.Prelude.{TraceRequest, Diagram, Trace}
 use Rattle.gt_explore_by_choice.specs.Exploring.{ExploresByChoices}
 use Rattle.gt_explore_by_choice.specs.declared.fault.UnitedFault.{UnitedFault}
 use Rattle.gt_explore_by_choice.specs.declared.fault.UnitedFault.TheVariants as united_faults
@@ -21,6 +22,10 @@ use Rattle.gt_explore_choices.specs.declared.fault.ChoicesFault.TheVariants.{Una
 use Rattle.gt_explore_choices.specs.declared.fault.ChoicesFault.TheVariants as choices_faults
 use Rattle.gt_explore_faults.specs.declared.claims.ClaimsFault.TheVariants as claims_faults
 use Rattle.gt_explore_faults.specs.declared.fault.ExploreFault.TheVariants as explore_faults
+use Rattle.gt_explore_moments.specs.Exploring.{MomentExplored}
+use Rattle.gt_explore_moments.specs.declared.asking.MomentFault.{MomentFault}
+use Rattle.gt_explore_moments.specs.declared.asking.MomentFault.TheVariants as moment_faults
+use Rattle.gt_explore_moments.specs.declared.asking.MomentOptions.{MomentOptions}
 use Rattle.gt_explore_precedence.specs.Exploring.{PrecedingExplored}
 use Rattle.gt_explore_precedence.specs.Terms.{has_precedence}
 use Rattle.gt_explore_precedence.specs.declared.exploring.PrecedenceOptions.{PrecedenceOptions}
@@ -99,6 +104,18 @@ SummaryExplored asked input old new (Err (claims_faults.Repeated first second)) 
 SummaryExplored asked input old new (Err (claims_faults.Precedence fault)) = ⊥
 SummaryExplored asked input old new (Err claims_faults.Astray) = ⊥
 
+-- what was written for the moves that lead to a text; its faults are those of a search
+abbrev pub MovesExplored : TraceOptions → List ℕ → Option (List ℕ) → Option (List ℕ) → Result Verdict ClaimsFault
+    → Type 0
+MovesExplored asked input old new (Ok verdict) = Traced asked (ReadsAsRun input) old new (Ok verdict)
+MovesExplored asked input old new (Err (claims_faults.Explore fault)) =
+    Traced asked (ReadsAsRun input) old new (Err fault)
+MovesExplored asked input old new (Err (claims_faults.Kind number)) = ⊥
+MovesExplored asked input old new (Err (claims_faults.Term claim number fault)) = ⊥
+MovesExplored asked input old new (Err (claims_faults.Repeated first second)) = ⊥
+MovesExplored asked input old new (Err (claims_faults.Precedence fault)) = ⊥
+MovesExplored asked input old new (Err claims_faults.Astray) = ⊥
+
 -- the claim of a request whose expression has terms of order
 abbrev pub precedence_in : ℕ → ExploreFormat → ExploreRequest → Option PrecedenceOptions
 precedence_in states format (explore_requests.Decide claim expression) =
@@ -109,8 +126,6 @@ precedence_in states format explore_requests.Texts = None
 precedence_in states format (explore_requests.Has given) = None
 precedence_in states format (explore_requests.Witness number) = None
 precedence_in states format explore_requests.Witnesses = None
-precedence_in states format (explore_requests.Trace number) = None
-precedence_in states format (explore_requests.Diagram number) = None
 
 abbrev pub precedence_asked : ExploreOptions → Option PrecedenceOptions
 precedence_asked asked = precedence_in asked.states asked.format asked.request
@@ -127,18 +142,39 @@ OneBy (Some claim) asked input old new r =
 abbrev pub OneExplored : ExploreOptions → List ℕ → Option (List ℕ) → Option (List ℕ) → Result Verdict ClaimsFault → Type 0
 OneExplored asked input old new r = OneBy (precedence_asked asked) asked input old new r
 
--- what was written for what is asked: one request, in which calls may be named, several claims, or a summary
-abbrev pub AskedExplored : SearchAsked → List ℕ → Option (List ℕ) → Option (List ℕ) → Result Verdict ClaimsFault
-    → Type 0
-AskedExplored (One asked) = OneExplored asked
-AskedExplored (Several asked) = ClaimsExplored asked
-AskedExplored (Together asked) = SummaryExplored asked
+-- the ending of an exploration of texts with this result
+abbrev pub explored_ending : Result Verdict ClaimsFault → Ending
+explored_ending (Ok verdict) = Ok (verdict_outcome verdict)
+explored_ending (Err fault) = Err (failures.Explore fault)
 
--- a text without choices is explored; the answer is the verdict
+-- texts are explored, and this is written by the result; the answer is the verdict
+abbrev pub SearchesTexts : (Result Verdict ClaimsFault → Type 0) → Ending → Type 0
+SearchesTexts Wrote (Ok outcome) = AnswersVerdict Wrote outcome
+SearchesTexts Wrote (Err (failures.Explore fault)) = Wrote (Err fault)
+SearchesTexts Wrote (Err failure) = ⊥
+
+-- the failure for a fault of a claim about what entries show
+abbrev pub moment_failure : MomentFault → Failure
+moment_failure (moment_faults.Claim fault) = failures.State fault
+moment_failure (moment_faults.Play fault) = failures.Explore (claims_faults.Explore (explore_faults.Play fault))
+moment_failure (moment_faults.Texts fault) = failures.Explore (claims_faults.Explore (explore_faults.Texts fault))
+
+-- a claim about what entries show is decided; the answer is the verdict
+abbrev pub SearchesMoment : MomentOptions → Doing
+SearchesMoment asked input old new (Ok outcome) =
+    AnswersVerdict (MomentExplored asked (ReadsAsRun input) old new) outcome
+SearchesMoment asked input old new (Err failure) =
+    (fault : MomentFault) × (failure ≡ moment_failure fault)
+    × MomentExplored asked (ReadsAsRun input) old new (Err fault)
+
+-- a text without choices is explored, for what is asked: one request, in which calls may be named, several claims, a
+-- summary, moves, or a claim about what entries show
 abbrev pub SearchesPlain : SearchAsked → Doing
-SearchesPlain asked input old new (Ok outcome) = AnswersVerdict (AskedExplored asked input old new) outcome
-SearchesPlain asked input old new (Err (failures.Explore fault)) = AskedExplored asked input old new (Err fault)
-SearchesPlain asked input old new (Err failure) = ⊥
+SearchesPlain (One asked) input old new r = SearchesTexts (OneExplored asked input old new) r
+SearchesPlain (Several asked) input old new r = SearchesTexts (ClaimsExplored asked input old new) r
+SearchesPlain (Together asked) input old new r = SearchesTexts (SummaryExplored asked input old new) r
+SearchesPlain (Moves asked) input old new r = SearchesTexts (MovesExplored asked input old new) r
+SearchesPlain (Moment asked) input old new r = SearchesMoment asked input old new r
 
 -- the failure for a fault of a script with choices
 abbrev pub failure_united : UnitedFault → Failure
@@ -151,11 +187,23 @@ SearchesOne asked source old new (Ok outcome) = AnswersVerdict (ExploresByChoice
 SearchesOne asked source old new (Err failure) =
     (fault : UnitedFault) × (failure ≡ failure_united fault) × ExploresByChoices source asked old new (Err fault)
 
--- the same for several claims and summaries, which have no answer for such a script
+-- what is asked has no answer for such a script
+abbrev pub HasNoAnswer : Option (List ℕ) → Option (List ℕ) → Ending → Type 0
+HasNoAnswer old new r = (r ≡ Err (failures.Choices Unanswered)) × Keeps old new
+
+-- a request about a script with choices, which has no answer if it is a claim with terms of order
+abbrev pub SearchesWithoutOrder : Option PrecedenceOptions → ExploreOptions → Doing
+SearchesWithoutOrder None asked source old new r = SearchesOne asked source old new r
+SearchesWithoutOrder (Some claim) asked source old new r = HasNoAnswer old new r
+
+-- the same for several claims, summaries, moves and claims about what entries show, which have no answer for such a
+-- script
 abbrev pub SearchesByChoices : SearchAsked → Doing
-SearchesByChoices (One asked) source old new r = SearchesOne asked source old new r
-SearchesByChoices (Several asked) source old new r = (r ≡ Err (failures.Choices Unanswered)) × Keeps old new
-SearchesByChoices (Together asked) source old new r = (r ≡ Err (failures.Choices Unanswered)) × Keeps old new
+SearchesByChoices (One asked) source old new r = SearchesWithoutOrder (precedence_asked asked) asked source old new r
+SearchesByChoices (Several asked) source old new r = HasNoAnswer old new r
+SearchesByChoices (Together asked) source old new r = HasNoAnswer old new r
+SearchesByChoices (Moves asked) source old new r = HasNoAnswer old new r
+SearchesByChoices (Moment asked) source old new r = HasNoAnswer old new r
 
 -- a line of the text is a choice: `maybe` or `leave`
 abbrev pub has_choice_line : List ℕ → Bool
@@ -221,8 +269,6 @@ IsRequestFor sought (explore_requests.Decide claim expression) = sought ≡ a_cl
 IsRequestFor sought (explore_requests.Has given) = ⊥
 IsRequestFor sought (explore_requests.Witness number) = sought ≡ one_script number
 IsRequestFor sought explore_requests.Witnesses = sought ≡ all_scripts
-IsRequestFor sought (explore_requests.Trace number) = sought ≡ one_trace number
-IsRequestFor sought (explore_requests.Diagram number) = sought ≡ one_diagram number
 
 -- the format of an exploration
 abbrev pub explore_format : Format → ExploreFormat
@@ -234,6 +280,11 @@ abbrev pub sought_together : SummaryRequest → Sought
 sought_together Answers = a_summary
 sought_together (Difference one other) = a_difference one other
 
+-- what is sought by moves
+abbrev pub sought_moves : TraceRequest → Sought
+sought_moves (Trace number) = one_trace number
+sought_moves (Diagram number) = one_diagram number
+
 -- this is asked for what is sought, in a format, up to this number of states
 abbrev pub IsAskedFor : Sought → ℕ → ExploreFormat → SearchAsked → Type 0
 IsAskedFor sought states format (One asked) =
@@ -242,6 +293,10 @@ IsAskedFor sought states format (Several asked) =
     (sought ≡ several_claims asked.claims.now) × (asked.format ≡ format) × (asked.states ≡ states)
 IsAskedFor sought states format (Together asked) =
     (sought ≡ sought_together asked.request) × (asked.format ≡ format) × (asked.states ≡ states)
+IsAskedFor sought states format (Moves asked) =
+    (sought ≡ sought_moves asked.request) × (asked.format ≡ format) × (asked.states ≡ states)
+IsAskedFor sought states format (Moment asked) =
+    (sought ≡ a_state_claim asked.claim.now) × (asked.states ≡ states)
 
 -- a script is explored so
 abbrev pub Seeks : Sought → Format → ℕ → Doing
@@ -255,8 +310,6 @@ AsksAboutText text (explore_requests.Decide claim expression) = ⊥
 AsksAboutText text (explore_requests.Has given) = given.now ≡ text
 AsksAboutText text (explore_requests.Witness number) = ⊥
 AsksAboutText text explore_requests.Witnesses = ⊥
-AsksAboutText text (explore_requests.Trace number) = ⊥
-AsksAboutText text (explore_requests.Diagram number) = ⊥
 
 -- a text is sought among those of a script, up to this number of states
 abbrev pub SeeksText : List ℕ → Format → ℕ → Doing

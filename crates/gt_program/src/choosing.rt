@@ -4,7 +4,7 @@ ghost use Rattle.gt_text.specs.declared.streams.TheConstants.{READ_LIMIT};
 ghost use Rattle.gt_program.specs.Obeying.{IsSourceWithChoice, IsWithChoice, SearchesByChoices};
 ghost use Rattle.gt_program.specs.Obeying.{SearchesOne, failure_united};
 
-use crate::exploring::{SearchAsked, of_verdict};
+use crate::exploring::{SearchAsked, of_verdict, precedence_asked};
 use gt_explore_answers::ExploreOptions;
 use gt_explore_by_choice::{UnitedFault, explore_choices};
 use gt_explore_choices::{ChoicesFault, choices_of, first_choice};
@@ -107,7 +107,8 @@ fn unanswered(reasons: &mut Reasons) -> Failure
     Failure::Choices(fault)
 }
 
-/// Answers what is asked on the texts that a script with choices may give. Several claims and summaries have no answer.
+/// Answers what is asked on the texts that a script with choices may give. Several claims, claims with terms of order,
+/// summaries, moves and claims about what entries show have no answer.
 pub(crate) fn search_choices<W: Write, X: SearchWatch>(
     alloc: Global,
     asked: &SearchAsked,
@@ -119,7 +120,13 @@ pub(crate) fn search_choices<W: Write, X: SearchWatch>(
     ensures { SearchesByChoices asked.now source.now (W.contents out.old) (W.contents out.new) result }
 {
     match asked {
-        SearchAsked::One(options) => search_one(alloc, options, source, out, reasons, watch),
-        SearchAsked::Several(_) | SearchAsked::Together(_) => Err(unanswered(reasons)),
+        SearchAsked::One(options) => match precedence_asked(options) {
+            None => search_one(alloc, options, source, out, reasons, watch),
+            Some(_) => Err(unanswered(reasons)),
+        },
+        SearchAsked::Several(_)
+        | SearchAsked::Together(_)
+        | SearchAsked::Moves(_)
+        | SearchAsked::Moment(_) => { Err(unanswered(reasons)) }
     }
 }

@@ -7,20 +7,23 @@ ghost use Rattle.gt_command_line.specs.Commands.{sought_by};
 ghost use Rattle.gt_command_line.specs.Files.{file_name_of};
 ghost use Rattle.gt_file_commands.specs.Working.{known_input, DoesOnFile, Works};
 ghost use Rattle.gt_file_commands.specs.declared.outcome.Outcome.TheVariants.{Unknown};
-ghost use Rattle.gt_program.specs.Obeying.{explore_format, verdict_outcome, AskedExplored, FindsText, IsAskedFor};
+ghost use Rattle.gt_program.specs.Obeying.{explore_format, explored_ending, verdict_outcome, FindsText, IsAskedFor};
 ghost use Rattle.gt_program.specs.Obeying.{Searches, SearchesPlain, Seeks, unread_failure};
-ghost use Rattle.gt_program.specs.Obeying.{OneExplored, SeeksText, SummaryExplored, precedence_asked};
+ghost use Rattle.gt_program.specs.Obeying.{MovesExplored, OneExplored, SeeksText, SummaryExplored, precedence_asked};
 
 use crate::choosing::{search_choices, source_with_choice};
+use crate::moments::search_moment;
 use crate::progress::Progress;
 use gt_command_line::{Exploration, Format, SearchOptions};
 use gt_explore_answers::{ExploreFormat, ExploreOptions, ExploreRequest};
 use gt_explore_choices::ChoicesFault;
 use gt_explore_claims::{ClaimsOptions, explore_claims, explore_named};
 use gt_explore_faults::{ClaimsFault, ExploreFault};
+use gt_explore_moments::MomentOptions;
 use gt_explore_precedence::{PrecedenceOptions, explore_preceding, has_precedence};
 use gt_explore_search::SearchWatch;
 use gt_explore_summary::{SummaryOptions, SummaryRequest, summarize};
+use gt_explore_tracing::{TraceOptions, TraceRequest, trace_bytes};
 use gt_explore_verdict::Verdict;
 use gt_file_commands::{
     Context, CopyingReader, Failure, KeptInput, Outcome, Reasons, TextSource, finish, read_fault,
@@ -32,12 +35,15 @@ use std::alloc::Global;
 use std::io::{Read, Write};
 use std::time::Clock;
 
-/// What is asked about the texts of a script: one request, the verdicts on several claims, or a summary.
+/// What is asked about a script: one request about its texts, the verdicts on several claims, a summary, the moves that
+/// lead to a text, or the verdict on a claim about what entries show.
 #[derive(Clone, Copy)]
 pub(crate) enum SearchAsked<'w> {
     One(ExploreOptions<'w>),
     Several(ClaimsOptions<'w>),
     Together(SummaryOptions),
+    Moves(TraceOptions),
+    Moment(MomentOptions<'w>),
 }
 
 // Returns the format of an exploration.
@@ -78,10 +84,25 @@ fn asked_for<'w>(asked: Exploration<'w>, states: usize, format: ExploreFormat) -
                 format,
             });
         }
+        Exploration::NeverState(claim) => {
+            return SearchAsked::Moment(MomentOptions { claim, states });
+        }
         Exploration::Witness(number) => ExploreRequest::Witness(number),
         Exploration::Witnesses => ExploreRequest::Witnesses,
-        Exploration::Trace(number) => ExploreRequest::Trace(number),
-        Exploration::Diagram(number) => ExploreRequest::Diagram(number),
+        Exploration::Trace(number) => {
+            return SearchAsked::Moves(TraceOptions {
+                request: TraceRequest::Trace(number),
+                states,
+                format,
+            });
+        }
+        Exploration::Diagram(number) => {
+            return SearchAsked::Moves(TraceOptions {
+                request: TraceRequest::Diagram(number),
+                states,
+                format,
+            });
+        }
     };
     SearchAsked::One(ExploreOptions {
         request,
@@ -118,8 +139,25 @@ fn summary_asked<W: Write, X: SearchWatch>(
     }
 }
 
-// Returns the claim of a request whose expression has terms of order.
-fn precedence_asked<'w>(asked: &ExploreOptions<'w>) -> Option<PrecedenceOptions<'w>>
+// Prints the moves that lead to a text that the script in these bytes may give.
+fn moves_asked<W: Write, X: SearchWatch>(
+    alloc: Global,
+    options: &TraceOptions,
+    input: &[u8],
+    out: &mut W,
+    watch: &mut X,
+) -> Result<Verdict, ClaimsFault>
+    ensures { (all : List ℕ) → input.now ≡ take READ_LIMIT all →
+        MovesExplored options.now all (W.contents out.old) (W.contents out.new) result }
+{
+    match trace_bytes(alloc, options, input, out, watch) {
+        Ok(verdict) => Ok(verdict),
+        Err(fault) => Err(ClaimsFault::Explore(fault)),
+    }
+}
+
+/// Returns the claim of a request whose expression has terms of order.
+pub(crate) fn precedence_asked<'w>(asked: &ExploreOptions<'w>) -> Option<PrecedenceOptions<'w>>
     ensures { result ≡ precedence_asked asked.now }
 {
     let ExploreRequest::Decide { claim, expression } = asked.request else {
@@ -156,21 +194,21 @@ fn explore_one<W: Write, X: SearchWatch>(
     }
 }
 
-// Answers what is asked on the texts that the script in these bytes may give.
-fn explore_asked<W: Write, X: SearchWatch>(
+// Returns the ending of an exploration of texts with this result, and adds the reason of a fault.
+fn explored_ending(
     alloc: Global,
-    asked: &SearchAsked,
     input: &[u8],
-    out: &mut W,
-    watch: &mut X,
-) -> Result<Verdict, ClaimsFault>
-    ensures { (all : List ℕ) → input.now ≡ take READ_LIMIT all →
-        AskedExplored asked.now all (W.contents out.old) (W.contents out.new) result }
+    explored: Result<Verdict, ClaimsFault>,
+    reasons: &mut Reasons,
+) -> Result<Outcome, Failure>
+    ensures { result ≡ explored_ending explored }
 {
-    match asked {
-        SearchAsked::One(options) => explore_one(alloc, options, input, out, watch),
-        SearchAsked::Several(options) => explore_claims(alloc, options, input, out, watch),
-        SearchAsked::Together(options) => summary_asked(alloc, options, input, out, watch),
+    match explored {
+        Ok(verdict) => Ok(of_verdict(verdict)),
+        Err(fault) => {
+            reasons.add_explore(&KeptInput::of(alloc, input), &fault);
+            Err(Failure::Explore(fault))
+        }
     }
 }
 
@@ -186,11 +224,25 @@ fn search_plain<W: Write, X: SearchWatch>(
     ensures { (all : List ℕ) → input.now ≡ take READ_LIMIT all →
         SearchesPlain asked.now all (W.contents out.old) (W.contents out.new) result }
 {
-    match explore_asked(alloc, asked, input, out, watch) {
-        Ok(verdict) => Ok(of_verdict(verdict)),
-        Err(fault) => {
-            reasons.add_explore(&KeptInput::of(alloc, input), &fault);
-            Err(Failure::Explore(fault))
+    match asked {
+        SearchAsked::One(options) => {
+            let explored = explore_one(alloc, options, input, out, watch);
+            explored_ending(alloc, input, explored, reasons)
+        }
+        SearchAsked::Several(options) => {
+            let claimed = explore_claims(alloc, options, input, out, watch);
+            explored_ending(alloc, input, claimed, reasons)
+        }
+        SearchAsked::Together(options) => {
+            let summed = summary_asked(alloc, options, input, out, watch);
+            explored_ending(alloc, input, summed, reasons)
+        }
+        SearchAsked::Moves(options) => {
+            let traced = moves_asked(alloc, options, input, out, watch);
+            explored_ending(alloc, input, traced, reasons)
+        }
+        SearchAsked::Moment(options) => {
+            search_moment(alloc, options, input, out, reasons, watch)
         }
     }
 }

@@ -10,7 +10,7 @@ use gt_file_commands::{
     Context, Outcome, Reasons, TextSource, answer, answer_lines, check_files, check_never_files,
     flow_format, list, play, print_rules, show_entries, show_flow,
 };
-use gt_policy_flow::FlowQuestion;
+use gt_policy_questions::FlowQuestion;
 use gt_policy_statements::WhyQuestion;
 use std::io::Write;
 use std::sync::Wait;

@@ -1,6 +1,6 @@
 //! Paths of bytes in chains of types: their lengths, and which pairs have one.
 use crate::compare::same;
-use gt_policy_flow::{FlowAnswer, FlowFormat, FlowQuestion, flow};
+use gt_policy_questions::{FlowAnswer, FlowFormat, FlowQuestion, flow};
 use std::alloc::{AllocError, Global};
 
 // Returns a policy of this number of types, t0 and on, of which each one may load from the one before it.

@@ -1,5 +1,5 @@
 //! Tests of policies, of their tables, of the listing of what they allow, of paths, of pairs of types, and of findings
-//! (`gt_policy`, `gt_allow`, `gt_policy_list`, `gt_policy_flow`, `gt_policy_pairs`, `gt_findings`), over their public
+//! (`gt_policy`, `gt_allow`, `gt_policy_list`, `gt_policy_questions`, `gt_findings`), over their public
 //! items.
 //!
 //! They test what no contract specifies: names and numbers of types, texts at the limits and texts that are cut off,

@@ -1,6 +1,6 @@
 //! Which pairs of types are allowed, by their lines and numbers.
 use crate::compare::same;
-use gt_policy_pairs::{PairsQuestion, pairs};
+use gt_policy_questions::{PairsQuestion, pairs};
 use gt_types::Perms;
 use std::alloc::Global;
 

@@ -1,9 +1,8 @@
 //! The choices of a script, their texts, and what `explore` prints of them.
 use gt_explore_answers::{ExploreFormat, ExploreOptions, ExploreRequest};
-use gt_explore_by_choice::explore_choices;
+use gt_explore_by_choice::{explore_choices, texts_of_choices};
 use gt_explore_choices::{ChoicePlace, ChoiceWord, choices_of, first_choice};
 use gt_explore_search::Unwatched;
-use gt_explore_united::texts_of_choices;
 use gt_explore_verdict::Verdict;
 use std::test::Fail;
 

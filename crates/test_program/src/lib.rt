@@ -1,17 +1,19 @@
 //! Tests of parts of the program, over the public items of `gt_command_line` (the command line), `gt_script` (the parser of
-//! scripts), `gt_host` (`play`, from a reader to a writer), `gt_explore_choices`, `gt_explore_united` and
-//! `gt_explore_by_choice` (scripts with choices).
+//! scripts), `gt_host` (`play`, from a reader to a writer), `gt_explore_choices` and `gt_explore_by_choice` (scripts with
+//! choices), and `gt_explore_states` with `gt_state_claims` (moments of a run).
 //!
-//! They test what no contract specifies: that a command line is answered and choices are explored if there is memory,
-//! and texts that are too long for a file and are made here by repetition: texts at the limits, and as many pins as there
-//! can be. Worked scripts are in `cases_play`: with their parsed form, whole and cut off, and played, also with their
-//! audit and over readers, writers and allocators that fail.
+//! They test what no contract specifies: that a command line is answered, choices are explored and a search for a moment
+//! is decided if there is memory, and texts that are too long for a file and are made here by repetition: texts at the
+//! limits, and as many pins as there can be. Worked scripts are in `cases_play`: with their parsed form, whole and cut
+//! off, and played, also with their audit and over readers, writers and allocators that fail.
 #![tactic(auto)]
 
 #[cfg(test)]
 mod choices;
 #[cfg(test)]
 mod limits;
+#[cfg(test)]
+mod moments;
 #[cfg(test)]
 mod plans;
 #[cfg(test)]

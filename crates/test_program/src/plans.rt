@@ -45,7 +45,7 @@ const DUMP: EntriesOptions = EntriesOptions {
     script: None,
 };
 
-static PLANS: [(&str, Invocation<'static>); 47] = [
+static PLANS: [(&str, Invocation<'static>); 48] = [
     ("gthost play", Invocation::Play(PLAIN)),
     (
         "gthost play first.gt",
@@ -455,6 +455,16 @@ static PLANS: [(&str, Invocation<'static>); 47] = [
         Invocation::Explore {
             asked: Exploration::Difference(2, 13),
             options: SEARCH,
+        },
+    ),
+    (
+        "gthost explore --never-state 1.0:rw --states=9",
+        Invocation::Explore {
+            asked: Exploration::NeverState("1.0:rw"),
+            options: SearchOptions {
+                states: 9,
+                ..SEARCH
+            },
         },
     ),
 ];

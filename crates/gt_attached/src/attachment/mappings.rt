@@ -43,9 +43,13 @@ impl<P: Allows + Drop> AttachedDomain<P> {
         self.map_at::<()>(dom, gref, flags)
     }
 
-    // Maps as `map` does. Each caller passes another type, and so has a body to inline (`Domain::map_with_pin`).
+    /// Maps an entry of a domain as [`map`](AttachedDomain::map) does. `Site` is any type that no other caller passes: each
+    /// caller then has a map of its own to inline, in which flags that are constant there are not tested.
+    ///
+    /// # Errors
+    /// Those of [`map`](AttachedDomain::map).
     #[inline(always)]
-    pub(crate) fn map_at<Site>(
+    pub fn map_at<Site>(
         &mut self,
         dom: DomId,
         gref: GrantRef,

@@ -25,6 +25,8 @@ impl<'s, 'a> SearchContext<'s, 'a> {
     ghost use Rattle.std.specs.Prelude.{IfSome};
     ghost use Rattle.gt_explore_moves.specs.Ends.{AreDone, choices_at, choices_in, is_done, is_ended, turns_by};
     ghost use Rattle.gt_explore_moves.specs.Ends.{turns_from};
+    ghost use Rattle.gt_explore_moves.specs.Spaces.{scene_ways};
+    ghost use Rattle.gt_explore_search.specs.Ways.{HasEachTurn};
     ghost use Rattle.gt_explore_moves.specs.Touches.{AreToBeTried};
     ghost use Rattle.gt_explore_moves.specs.declared.scene.SearchState.{SearchState};
 
@@ -85,6 +87,16 @@ impl<'s, 'a> SearchContext<'s, 'a> {
             push_choices(&mut turns, place, self.choices_in(inside, place, actor))?;
         }
         Ok(turns)
+    }
+
+    /// Returns the moves of all domains: each turn by which a run that the state shows can continue is among them.
+    ///
+    /// # Errors
+    /// An allocation failed.
+    pub fn every_turn(&self, world: &SearchState<'a>) -> Result<Vec<Turn>, AllocError>
+        ensures { IfOk result (λ turns. HasEachTurn (scene_ways self.now) world.now turns.items) }
+    {
+        self.all_turns(world)
     }
 
     /// Returns the moves to try: those of a set of domains that no domain outside can disturb, if one was found, and

@@ -6,6 +6,7 @@ use super::given::{
     bare_reason, given_reason, never_reason, nothing_reason, question_reason, text_reason,
 };
 use super::names::shown_name;
+use crate::flows::fault::FlowFault;
 use gt_check_command::{BreachFault, NeverText, WhyFault};
 use gt_command_line::Invocation;
 use gt_entries::{DumpFault, DumpOptions};
@@ -16,11 +17,12 @@ use gt_fault_reasons::{
     push_utf8_reason,
 };
 use gt_host::play;
-use gt_policy_flow::{FlowFault, FlowQuestion};
 use gt_policy_list::ListingFault;
+use gt_policy_questions::FlowQuestion;
 use gt_policy_reasons::{push_block_reason, push_policy_reason};
 use gt_policy_statements::WhyQuestion;
 use gt_script_runs::PlayFault;
+use gt_state_claims::StateClaimFault;
 use gt_text::ReadFault;
 use std::alloc::{AllocError, Global};
 use std::io;
@@ -261,6 +263,15 @@ fn choices_reason(alloc: Global, file: &str, fault: ChoicesFault) -> Result<Vec<
     words_reason(alloc, file, words.as_str())
 }
 
+// Returns the reason for which a claim about the states of a script was not decided, or nothing if memory ran out.
+fn state_reason(alloc: Global, file: &str, fault: StateClaimFault) -> Result<Vec<u8>, AllocError> {
+    if fault == StateClaimFault::Memory {
+        return Ok(Vec::new(alloc));
+    }
+    let words = format!(in alloc; "{fault}")?;
+    words_reason(alloc, file, words.as_str())
+}
+
 impl<'a> Reasons<'a> {
     /// Makes an empty collection of the reasons of this command.
     pub fn of(alloc: Global, invocation: &Invocation<'a>) -> Reasons<'a> {
@@ -443,6 +454,14 @@ impl<'a> Reasons<'a> {
     pub fn add_choices(&mut self, fault: ChoicesFault) {
         if let Some(file) = self.file {
             let said = choices_reason(self.alloc, file, fault);
+            self.add(said);
+        }
+    }
+
+    /// Adds the reason for which a claim about the states of the script that was read was not decided.
+    pub fn add_state(&mut self, fault: StateClaimFault) {
+        if let Some(file) = self.file {
+            let said = state_reason(self.alloc, file, fault);
             self.add(said);
         }
     }

@@ -1,9 +1,10 @@
 //! The reasons for which a question about flows was not answered.
 use super::collecting::{listing_reason, push_no_type};
 use super::copying::KeptInput;
+use crate::flows::fault::FlowFault;
 use gt_fault_reasons::{policy_block, push_read_reason};
-use gt_policy_flow::{FlowFault, FlowQuestion};
 use gt_policy_list::ListingFault;
+use gt_policy_questions::FlowQuestion;
 use gt_policy_reasons::push_policy_reason;
 use gt_text::text_of;
 use std::alloc::{AllocError, Global};

@@ -6,17 +6,17 @@ use Rattle.gt_c.specs.Calling.{EncodesMapped, outcome_mapped, ref_at, dom_of}
 use Rattle.gt_c.proofs.Made.{idle-there, made}
 use Rattle.gt_c.proofs.mappings.map_of.Goals as goal
 
-pub map-answered-requires : goal.map-answered-requires
-map-answered-requires c = record { idle = idle-there c.args.domain.now.held.value (c.is_turned_away.ensures.may c.if-is_turned_away.false) c.lent_mut-lent.ensures.value }
+pub map_at-answered-requires : goal.map_at-answered-requires
+map_at-answered-requires g c = record { idle = idle-there c.args.domain.now.held.value (c.is_turned_away.ensures.may c.if-is_turned_away.false) c.lent_mut-lent.ensures.value }
 
 pub returns : goal.returns
-returns c =
+returns g c =
     let x = c.lent_mut-lent.result.now in let answer = c.store_mapped.new.answer in
-    let said : answer ≡ encoded (outcome_mapped x.attached.domain.seat.dom x.run c.map-answered.result) = cc in
+    let said : answer ≡ encoded (outcome_mapped x.attached.domain.seat.dom x.run c.map_at-answered.result) = cc in
     made answer (EncodesMapped (requests.Map (dom_of c.args.dom) (ref_at c.args.gref) c.args.flags) (hypercalls.Map (dom_of c.args.dom) (ref_at c.args.gref) c.args.flags) answer) (c.is_turned_away.ensures.may c.if-is_turned_away.false) c.lent_mut-lent.ensures.value
     (record {
-      result = c.map-answered.result;
+      result = c.map_at-answered.result;
       encodes = said;
-      stays = c.map-answered.ensures.stays;
-      holds = (c.map-answered.ensures.answered, c.map-answered.ensures.recorded);
+      stays = c.map_at-answered.ensures.stays;
+      holds = (c.map_at-answered.ensures.answered, c.map_at-answered.ensures.recorded);
     })

@@ -1,6 +1,6 @@
 use Rattle.std.proofs.Common.{◌≡◌, ◌∙◌, ap, sym, subst, Bool, Option}
 use Rattle.gt_types.specs.declared.perms.Perms.{Perms}
-use Rattle.gt_policy_pairs.specs.Pairs.{ArePairsOf}
+use Rattle.gt_policy_questions.specs.Pairs.{ArePairsOf}
 use Rattle.gt_check_command.specs.Explaining.{says_yes}
 use Rattle.gt_check_command.proofs.Advised.{answer-lines, answer-no}
 use Rattle.gt_check_command.proofs.explaining.write_answer.Goals as goal

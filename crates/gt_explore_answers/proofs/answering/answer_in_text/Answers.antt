@@ -19,9 +19,3 @@ returns-in-Witness c = made_so (run_contents c.args.script.now) (map operation_a
 
 pub returns-in-Witnesses : goal.returns-in-Witnesses
 returns-in-Witnesses c = made_so (run_contents c.args.script.now) (map operation_asked c.args.conditions.now) (found_from c.args.found.now) c.args.request _ c.witnesses.result c.in-Witnesses.is c.witnesses.ensures
-
-pub returns-in-Trace : goal.returns-in-Trace
-returns-in-Trace c = made_so (run_contents c.args.script.now) (map operation_asked c.args.conditions.now) (found_from c.args.found.now) c.args.request _ c.moves_output.result c.in-Trace.is c.moves_output.ensures
-
-pub returns-in-Diagram : goal.returns-in-Diagram
-returns-in-Diagram c = made_so (run_contents c.args.script.now) (map operation_asked c.args.conditions.now) (found_from c.args.found.now) c.args.request _ c.moves_output-in-Diagram.result c.in-Diagram.is c.moves_output-in-Diagram.ensures

@@ -6,7 +6,7 @@ use Rattle.gt_explore_verdict.specs.declared.judging.Judgement.{Judgement}
 use Rattle.gt_explore_verdict.specs.declared.judging.Verdict.{Verdict}
 use Rattle.gt_explore_answers.specs.Exploring.{satisfied}
 use Rattle.gt_explore_answers.specs.Outputs.{found_from}
-use Rattle.gt_explore_united.specs.Possible.{MayGiveByChoice}
+use Rattle.gt_explore_by_choice.specs.Possible.{MayGiveByChoice}
 use Rattle.gt_explore_by_choice.proofs.Answered.{tells_by}
 use Rattle.gt_explore_by_choice.proofs.answering.claim_made.Goals as goal
 

@@ -1,5 +1,5 @@
 use Rattle.std.proofs.Common.{codes, decimal}
-use Rattle.gt_explore_trace.proofs.OneMore.{three_joined}
+use Rattle.gt_explore_answers.proofs.Shown.{three_joined}
 use Rattle.gt_explore_by_choice.specs.Answering.{waiting_comment}
 use Rattle.gt_explore_by_choice.proofs.listing.push_waiting_line.Goals as goal
 

@@ -1,6 +1,6 @@
 use Rattle.std.proofs.Common.{ℕ, List}
 use Rattle.gt_check_command.specs.Explaining.{Explained}
-use Rattle.gt_policy_flow.specs.Blocks.{FlowedAs}
+use Rattle.gt_file_commands.specs.FlowBlocks.{FlowedAs}
 use Rattle.gt_file_commands.proofs.Worked.{answered_input, for_work}
 use Rattle.gt_file_commands.proofs.commands.perform.Goals as goal
 

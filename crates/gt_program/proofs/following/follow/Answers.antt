@@ -1,6 +1,6 @@
 use Rattle.std.proofs.Common.{subst}
 use Rattle.std.specs.Option.{option_map}
-use Rattle.gt_policy_flow.specs.declared.format.FlowFormat.{FlowFormat}
+use Rattle.gt_policy_questions.specs.declared.flows.format.FlowFormat.{FlowFormat}
 use Rattle.gt_file_commands.specs.Working.{AnswersFlow, Works, known_text}
 use Rattle.gt_file_commands.specs.declared.outcome.Outcome.TheVariants.{Unknown}
 use Rattle.gt_program.proofs.Obeyed.{as_planned}

@@ -19,9 +19,3 @@ returns-in-Witness c = shown_so (run_contents c.args.self.now.script.now) c.args
 
 pub returns-in-Witnesses : goal.returns-in-Witnesses
 returns-in-Witnesses c = shown_so (run_contents c.args.self.now.script.now) c.args.limit (map operation_asked c.args.conditions.now) (found_from c.args.self.now.found.now) c.args.request _ c.all-in-Witnesses.result c.in-Witnesses.is c.all-in-Witnesses.ensures
-
-pub returns-in-Trace : goal.returns-in-Trace
-returns-in-Trace c = shown_so (run_contents c.args.self.now.script.now) c.args.limit (map operation_asked c.args.conditions.now) (found_from c.args.self.now.found.now) c.args.request _ c.traced.result c.in-Trace.is c.traced.ensures
-
-pub returns-in-Diagram : goal.returns-in-Diagram
-returns-in-Diagram c = shown_so (run_contents c.args.self.now.script.now) c.args.limit (map operation_asked c.args.conditions.now) (found_from c.args.self.now.found.now) c.args.request _ c.moves_output.result c.in-Diagram.is c.moves_output.ensures

@@ -1,0 +1,4 @@
+pub mod Waiting
+pub mod Joined
+pub mod Spaces
+pub mod Orders

@@ -1,5 +1,0 @@
-pub mod Columns
-pub mod Counts
-pub mod Objects
-pub mod Shown
-pub mod Written

@@ -1,0 +1,4 @@
+pub mod Asked
+pub mod Explored
+pub mod Pieces
+pub mod Written

@@ -1,0 +1,4 @@
+pub mod Exploring
+pub mod Naming
+pub mod Outputs
+pub mod Showing

@@ -1,0 +1,26 @@
+//! The command `explore --never-state`: a claim that no moment of a script's run has these states of entries.
+//!
+//! [`explore_moment`] reads a script for `run` and the claim, searches for a moment of some order at which the claim
+//! holds (`search_state` of `gt_explore_states`), and writes the answer. If there is such a moment, the answer is a
+//! script for `play` that comes to it and shows the entries that the claim names.
+//!
+//! Proved: `holds` is written only if no order has such a moment, and a script only if one has (`MomentExplored` in
+//! specs/Exploring.antt). The script was played before, and the lines of its `show` are those of entries of which the
+//! claim holds (`ShowsMoment`). Both speak of orders and of what `play` prints, and not of the search.
+//!
+//! It uses these, `gt_explore_search` (turns, and the watch over a search), `gt_explore_replay` and `gt_explore_witness`
+//! (scripts for `play`), `gt_host` (`play`), `gt_state_claims` (claims), `gt_explore_faults`, `gt_explore_verdict`,
+//! `gt_core`, `gt_model`, `gt_script`, `gt_script_runs`, `gt_text`, `gt_types` and `hex`. Its definitions also name
+//! `gt_policy`.
+#![tactic(auto)]
+
+mod asking;
+mod exploring;
+mod naming;
+mod outputs;
+mod playing;
+mod rows;
+mod showing;
+
+pub use asking::{MomentFault, MomentOptions};
+pub use exploring::explore_moment;

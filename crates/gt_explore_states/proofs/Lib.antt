@@ -1,0 +1,4 @@
+pub mod Orders
+pub mod Showing
+pub mod Spaces
+pub mod TablesFollow

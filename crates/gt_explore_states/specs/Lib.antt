@@ -1,0 +1,4 @@
+pub mod Moments
+pub mod Moves
+pub mod Spaces
+pub mod Tables

@@ -1,6 +1,0 @@
-use Rattle.std.proofs.Common.{◌≡◌, ◌++◌, take}
-use Rattle.gt_policy_pairs.specs.Listing.{pairs_of}
-use Rattle.gt_policy_pairs.proofs.listing.push_pairs.Given as goal
-
-abbrev pub invariant-targets : goal.invariant-targets
-invariant-targets l = l.pairs.items ≡ l.initial.pairs.items ++ pairs_of l.source (take l.target-index l.targets)

@@ -1,0 +1,4 @@
+pub mod Claims
+pub mod Faults
+pub mod Reading
+pub mod Words
