@@ -327,7 +327,7 @@ impl<P: Allows + Drop> AttachedDomain<P> {
     }
 
     /// Begins a copy as [`copy_begin`](AttachedDomain::copy_begin) does. `Site` is any type that no other caller passes:
-    /// each caller then has a beginning of its own to inline, in which flags that are constant there are not tested.
+    /// each caller then inlines a separate body, which does not test the flags that are constant in that caller.
     ///
     /// # Errors
     /// Those of [`copy_begin`](AttachedDomain::copy_begin).

@@ -89,7 +89,7 @@ pub enum Exploration<'a> {
     Summary,
     /// The lines in which the texts of these numbers differ.
     Difference(usize, usize),
-    /// The verdict on this claim: there is no moment at which it holds of what entries show.
+    /// The verdict on the claim that entries show this at no moment.
     NeverState(&'a str),
 }
 

@@ -23,7 +23,7 @@ course_waits at k = is_some (slice_get k.tasks 0)
 abbrev pub actor_waits : SearchContext → ℕ → Actor → Bool
 actor_waits scene at a = is_some (slice_get (tasks_at scene at) a.next)
 
--- a run that goes on by this turn may end in at most this number of blocks: each other domain with tasks left needs one
+-- a run that continues with this turn may end in at most this number of blocks: each other domain with tasks left needs one
 abbrev pub may_end_within : ℕ → SearchContext → BlockState → Turn → Bool
 may_end_within most scene w turn =
     nat_le (blocks_with w.last w.blocks turn.place

@@ -28,7 +28,7 @@ pub struct FewestBlocks {
 enum FewerBlocks {
     // These turns make an order.
     Found(Vec<Turn>),
-    // There is none.
+    // No such order exists.
     Nowhere,
     // None was found, and the search did not meet all states.
     Unknown,

@@ -39,8 +39,8 @@ impl<'s> BlockSpace<'s> {
         waiting
     }
 
-    // Returns whether a run that goes on by this turn may end in at most `most` blocks: each other domain with tasks
-    // left needs a block.
+    // Returns whether a run that continues with this turn may end in at most `most` blocks: each other domain with
+    // tasks left needs a block.
     fn may_end(&self, state: &BlockState<'s>, turn: Turn) -> bool
         ensures { result ≡ may_end_within self.now.most self.now.scene state.now turn }
     {

@@ -1,7 +1,7 @@
 -- The lines of an answer.
 use Rattle.std.specs.Prelude.{◌++◌, ℕ, List, codes, decimal}
 
--- there is no such moment; `states` is the number of states that the search met
+-- no order has such a moment; `states` is the number of states that the search met
 abbrev pub holds_lines : ℕ → List ℕ
 holds_lines states = codes "holds\nstates " ++ decimal states ++ codes "\n"
 
@@ -9,7 +9,7 @@ holds_lines states = codes "holds\nstates " ++ decimal states ++ codes "\n"
 abbrev pub undecided_lines : ℕ → List ℕ
 undecided_lines states = codes "not decided\nstates " ++ decimal states ++ codes ": not all states; raise --states\n"
 
--- the comment over a script that comes to a moment at which this claim holds
+-- the comment over a script that reaches a moment at which this claim holds
 abbrev pub moment_comment : List ℕ → ℕ → List ℕ
 moment_comment claim states =
     codes "# does not hold: at its end " ++ claim ++ codes "\n# states " ++ decimal states ++ codes "\n"

@@ -1,4 +1,4 @@
-//! What is asked about the moments of a script, and why there is no answer.
+//! Questions about the moments of a script, and the reasons why one was not answered.
 use gt_explore_faults::TextsFault;
 use gt_script_runs::PlayFault;
 use gt_state_claims::StateClaimFault;

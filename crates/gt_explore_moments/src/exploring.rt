@@ -163,7 +163,7 @@ fn explore_parsed<W: Write, T: SearchWatch>(
 }
 
 /// Decides the claim that no moment of a script's run has entries that show this. If it holds, the answer is `holds` and
-/// the number of states that the search met. If not, it is a script for `play` that comes to such a moment and then has
+/// the number of states that the search met. If not, it is a script for `play` that reaches such a moment and then has
 /// a `show` line for each entry that the claim names. It was played, and showed entries of which the claim holds. If a
 /// domain leaves in it with a mapping that it may not unmap, a line may take its place. The bytes are a whole text, or
 /// the first 1,048,577 of a longer one.

@@ -2,7 +2,7 @@
 //!
 //! [`explore_moment`] reads a script for `run` and the claim, searches for a moment of some order at which the claim
 //! holds (`search_state` of `gt_explore_states`), and writes the answer. If there is such a moment, the answer is a
-//! script for `play` that comes to it and shows the entries that the claim names.
+//! script for `play` that reaches it and shows the entries that the claim names.
 //!
 //! Proved: `holds` is written only if no order has such a moment, and a script only if one has (`MomentExplored` in
 //! specs/Exploring.antt). The script was played before, and the lines of its `show` are those of entries of which the

@@ -7,7 +7,7 @@ use gt_text::{push_number, push_text};
 use gt_types::DomId;
 use std::alloc::{AllocError, Global};
 
-/// Returns the answer that there is no such moment.
+/// Returns the answer `holds`: no order has such a moment.
 pub fn holds_lines(alloc: Global, states: usize) -> Result<Vec<u8>, AllocError>
     ensures { IfOk result (λ text. text.items ≡ holds_lines states) }
 {
@@ -29,7 +29,7 @@ pub fn undecided_lines(alloc: Global, states: usize) -> Result<Vec<u8>, AllocErr
     Ok(text)
 }
 
-/// Returns the comment over a script that comes to a moment at which this claim holds.
+/// Returns the comment over a script that reaches a moment at which this claim holds.
 pub fn moment_comment(alloc: Global, claim: &str, states: usize) -> Result<Vec<u8>, AllocError>
     ensures { IfOk result (λ text. text.items ≡ moment_comment claim.now states) }
 {

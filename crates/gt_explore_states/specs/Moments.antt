@@ -31,7 +31,7 @@ AreTurnsOf c (t ∷ ts) (x ∷ hs) =
 AreTurnsOf c [] (x ∷ hs) = ⊥
 AreTurnsOf c (t ∷ ts) [] = ⊥
 
--- by these turns the run comes to a moment at which the claim holds
+-- by these turns the run reaches a moment at which the claim holds
 pub record LeadsToMoment (c : RunContents) (asked : ClaimAsked) (turns : List Turn) : Type 0 where
   pub happened : List Happening
   pub moment : IsMoment c happened

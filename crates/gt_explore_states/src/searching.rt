@@ -27,7 +27,7 @@ use std::cell::Cell;
 pub enum StateFinding {
     /// These turns lead from the beginning of the run to a moment at which the claim holds.
     Found(Vec<Turn>),
-    /// There is no such moment.
+    /// No order has such a moment.
     Nowhere,
     /// No such moment was found. The search did not meet all states, since it came to its limit, its watch ended it, or
     /// memory was wanting.

@@ -1,4 +1,4 @@
-//! Where bytes may flow by the text of a policy.
+//! Questions about where bytes may flow by the text of a policy.
 pub(crate) mod asking;
 pub(crate) mod format;
 mod lines;

@@ -44,7 +44,7 @@ impl<P: Allows + Drop> AttachedDomain<P> {
     }
 
     /// Maps an entry of a domain as [`map`](AttachedDomain::map) does. `Site` is any type that no other caller passes: each
-    /// caller then has a map of its own to inline, in which flags that are constant there are not tested.
+    /// caller then inlines a separate body, which does not test the flags that are constant in that caller.
     ///
     /// # Errors
     /// Those of [`map`](AttachedDomain::map).

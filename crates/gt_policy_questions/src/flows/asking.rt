@@ -90,7 +90,8 @@ fn push_trusted(
 
 // Returns the form of the answers.
 fn form_of(question: &FlowQuestion, sources: &[TypeId], targets: &[TypeId]) -> PairForm
-    ensures { result ≡ form_of (is_some question.now.source && is_some question.now.target) (length sources.now) (length targets.now) }
+    ensures { result ≡ form_of (is_some question.now.source && is_some question.now.target) (length sources.now)
+        (length targets.now) }
 {
     if question.source.is_none() || question.target.is_none() {
         PairForm::Reached
