@@ -125,14 +125,26 @@ class Draws:
         holds = [satisfies(text, expression) for text in texts]
         found = "".join(f"text {at + 1} of {len(texts)}\n{text}" for at, text in enumerate(texts) if holds[at])
         done = self.run("explore", "--states", STATES, f"--find={expression}", text=script)
+        if done.returncode == 2 and b": term " in done.stderr:  # a term that no answer can meet
+            self.want(not any(holds), f"--find '{expression}' is refused: {done.stderr}")
+            self.seen["terms refused"] += 1
+            return
         self.want(done.returncode == (not any(holds)), f"--find '{expression}' has status {done.returncode}")
-        self.want(done.stdout.decode() == f"{found}states {states}\n", f"--find '{expression}' prints other texts")
+        if b": not all texts" in done.stdout:  # it ends early once a text is found
+            parts = re.split(r"^(?:text \d+.*|states .*)\n", done.stdout.decode(), flags=re.M)[1:-1]
+            met = parts and all(part in texts and satisfies(part, expression) for part in parts)
+            self.want(met, f"--find '{expression}' prints other texts")
+            self.seen["finds that end early"] += 1
+        else:
+            self.want(done.stdout.decode() == f"{found}states {states}\n", f"--find '{expression}' prints other texts")
         for claim, against in (("--never", True), ("--always", False)):
             done = self.run("explore", "--states", STATES, f"{claim}={expression}", text=script)
             first = holds.index(against) + 1 if against in holds else 0
             self.want(done.returncode == (first > 0), f"{claim} '{expression}' has status {done.returncode}")
             start = f"# does not hold: text {first} of {len(texts)}\n" if first else f"holds\nstates {states}\n"
             starts = done.stdout.decode().startswith((start, "# no script for play"))
+            if first and b": not all texts" in done.stdout:  # it ends early once a text is found
+                starts = done.stdout.startswith(b"# does not hold: text ")
             self.want(starts, f"{claim} '{expression}' prints otherwise")
             self.seen["claims that hold"] += first == 0
 

@@ -9,6 +9,9 @@
 #   ring N   N domains grant a page to the next one and revoke it, and map that of the one before and unmap it
 #   relay N  N domains hand a token on: each awaits that of the one before, maps its page, and grants one of its own
 #   text N   an owner pokes a frame N times against a domain that loads it N times: few states, many texts
+#   via N    a domain copies through a transitive entry, while N others copy from pages of their own
+#   high N   the same as map N, with references from 8,000 on
+#   turns N  N requests on one page, each answered before the next
 #
 # A program that meets more states than the limit, or takes more than a minute, is reported as such. The gate does
 # not run it, since it prints times.
@@ -31,12 +34,13 @@ head_of() {
   for ((dom = 2; dom <= $1; dom++)); do echo "domain $dom u:r:b_t 8 1 1"; done
 }
 
-# Prints a grant of a page to each of this number of domains, a flag, and their revocations.
+# Prints a grant of a page to each of this number of domains, a flag, and their revocations. The references begin at
+# `first`.
 granted_and_revoked() {
-  local mode="$1" count="$2" page="$3" at
-  for ((at = 0; at < count; at++)); do echo "do 1 grant $at page $((at + 2)) $mode $((page + at))"; done
+  local mode="$1" count="$2" page="$3" first="${4:-0}" at
+  for ((at = 0; at < count; at++)); do echo "do 1 grant $((first + at)) page $((at + 2)) $mode $((page + at))"; done
   echo 'tell 1 granted'
-  for ((at = 0; at < count; at++)); do echo "do 1 revoke $at"; done
+  for ((at = 0; at < count; at++)); do echo "do 1 revoke $((first + at))"; done
 }
 
 # Prints the program of a family and a size.
@@ -58,6 +62,28 @@ write() {
       for ((dom = 2; dom <= size + 1; dom++)); do
         printf 'await %d granted\ndo %d copy gref 1 %d 0 frame self 0 0 1\ndo %d peek 0 0 1\n' \
           "$dom" "$dom" $((dom - 2)) "$dom"
+      done ;;
+    high)
+      head_of $((size + 1)) | sed 's/^domain 1 .*/domain 1 u:r:a_t 8 16 1/'
+      granted_and_revoked rw "$size" 0 8000
+      for ((dom = 2; dom <= size + 1; dom++)); do
+        printf 'await %d granted\ndo %d map h 1 %d rw\ndo %d store h 0 01\ndo %d unmap h\n' \
+          "$dom" "$dom" $((dom + 7998)) "$dom" "$dom"
+      done ;;
+    via)
+      head_of $((size + 3)) | sed 's/^\(domain [23] u:r:b_t\) 8 1 1/\1 8 1 2/'
+      printf 'do 1 grant 0 page 2 ro 5\ntell 1 page\nawait 2 page\ndo 2 grant 0 via 3 ro 1 0\ntell 2 via\n'
+      printf 'await 3 via\ndo 3 copy gref 2 0 0 frame self 0 0 1\ndo 1 revoke 0\ndo 2 revoke 0\n'
+      for ((dom = 4; dom <= size + 3; dom++)); do
+        printf 'do 1 grant %d page %d ro %d\ntell 1 g%d\nawait %d g%d\n' \
+          $((dom - 3)) "$dom" $((5 + dom % 3)) "$dom" "$dom" "$dom"
+        printf 'do %d copy gref 1 %d 0 frame self 0 0 1\n' "$dom" $((dom - 3))
+      done ;;
+    turns)
+      head_of 2
+      for ((at = 0; at < size; at++)); do
+        printf 'do 1 grant 0 page 2 rw 5\ntell 1 q%d\nawait 2 q%d\ndo 2 map h 1 0 rw\ndo 2 store h 0 01\n' "$at" "$at"
+        printf 'do 2 unmap h\ntell 2 d%d\nawait 1 d%d\ndo 1 revoke 0\n' "$at" "$at"
       done ;;
     race)
       head_of 2
@@ -123,5 +149,8 @@ for size in 4; do measure bytes "$size"; done
 for size in 1 2 3 4; do measure race "$size"; done
 for size in 1 2 3; do measure pairs "$size"; done
 for size in 2 3 4 5 6; do measure ring "$size"; done
-for size in 4 8 16; do measure relay "$size"; done
+for size in 4 8 16 64; do measure relay "$size"; done
 for size in 4 6 7 8; do measure text "$size"; done
+for size in 1 2 3; do measure via "$size"; done
+for size in 4; do measure high "$size"; done
+for size in 256 1024 2048; do measure turns "$size"; done

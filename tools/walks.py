@@ -42,7 +42,7 @@ WALKS = [
             ("Action", "gt_calls::call::Call::next"),
         ],
         [
-            ("Answer", "gt_core::kept::Machine::settle"),
+            ("Answer", "gt_core::kept::Machine::settle_call"),
             ("Ticked", "gt_core::machine::ticked_as"),
             ("Answer", "gt_host::run::tick_up_to"),
         ],

@@ -45,7 +45,7 @@ _gthost() {
   case "$command" in
     play) words="--audit --verbose -v --format --help" ;;
     run) words="--audit --verbose -v --format --help" ;;
-    explore) words="--verbose -v --find --never --always --claims --has --witness --trace --summary --diff --never-state --states --format --help" ;;
+    explore) words="--verbose -v --find --never --always --claims --has --witness --trace --summary --diff --never-state --races --states --format --help" ;;
     policy) words="--verbose -v --format --help" ;;
     rules) words="--verbose -v --help" ;;
     check) words="--script --verbose -v --never --format --help" ;;

@@ -30,6 +30,7 @@ complete -c gthost -n '__fish_seen_subcommand_from explore' -l trace -x -a '' -d
 complete -c gthost -n '__fish_seen_subcommand_from explore' -l summary -d 'Print the lines whose answers vary, and how often'
 complete -c gthost -n '__fish_seen_subcommand_from explore' -l diff -x -a '' -d 'Print the lines in which outputs K and L differ'
 complete -c gthost -n '__fish_seen_subcommand_from explore' -l never-state -x -a '' -d 'Claim that entries never show S at one moment'
+complete -c gthost -n '__fish_seen_subcommand_from explore' -l races -d 'Print the pairs of lines that race for a byte'
 complete -c gthost -n '__fish_seen_subcommand_from explore' -l states -x -a '' -d 'Stop after N states [default: 1000000]'
 complete -c gthost -n '__fish_seen_subcommand_from explore' -l format -x -a 'text json mermaid' -d 'Print text, json, or mermaid (--trace) [default: text]'
 complete -c gthost -n '__fish_seen_subcommand_from explore' -l help -d 'Print help'

@@ -12,7 +12,7 @@ use crate::stops::Stop;
 use gt_frames::{Frame, FrameName, Frames, Spot, Writ, WriteBasis};
 use gt_handles::Handles;
 use gt_types::{Config, DomId, DomainConfig, FRAME_SIZE, Range, TypeId};
-use gt_words::{Seat, Words};
+use gt_words::{FrameCopy, Seat, Words};
 use std::alloc::{AllocError, Global};
 use std::sync::Wait;
 
@@ -161,19 +161,14 @@ fn lock_all<R: Wait>(rt: &R, words: &Words, seat: &mut Seat, times: u32) -> u32
 fn copy_locked<R: Wait>(rt: &R, words: &Words, seat: &mut Seat, times: u32) -> u32
     requires { IsSeatOf words.now seat.old }
 {
-    let from = Spot {
-        frame: far(),
-        off: 0,
-    };
-    let to = Spot {
-        frame: near(),
-        off: 0,
+    let (source, dest) = (far(), near());
+    let copy = FrameCopy {
+        writ: &BY_OWNER,
+        range: WHOLE,
+        to_off: 0,
     };
     'copies: for done in 0..times {
-        if words
-            .copy_frames(rt, seat, from, to, FRAME_SIZE, &BY_OWNER)
-            .is_err()
-        {
+        if words.copy_frames(rt, seat, source, dest, copy).is_err() {
             return done;
         }
     }

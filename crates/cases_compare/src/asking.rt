@@ -62,7 +62,7 @@ fn ticked(
     dom: DomId,
     name: &'static str,
 ) -> Result<Ticked, Stop> {
-    for _ in 0..scarce.begin() {
+    for _ in 0..scarce.prepare_call() {
         if let Some(ticked) = tick_once(core, scarce, dom)? {
             return Ok(ticked);
         }
@@ -106,7 +106,7 @@ fn begun(
     dom: DomId,
     request: Request<'_>,
 ) -> Result<Begun, Stop> {
-    for _ in 0..scarce.begin() {
+    for _ in 0..scarce.prepare_call() {
         if let Some(begun) = begin_once(core, scarce, dom, request)? {
             return Ok(begun);
         }
@@ -172,7 +172,7 @@ fn is_recorded(request: &Request<'_>) -> bool {
 
 impl<D: Calls + Drop> Both<D> {
     /// Returns the position of a domain among those configured.
-    pub fn place_of(&self, dom: DomId) -> usize {
+    pub fn domain_place(&self, dom: DomId) -> usize {
         for (place, domain) in self.configured.iter().enumerate() {
             if domain.id == dom {
                 return place;

@@ -78,8 +78,8 @@ fn answered<R: Wait, D: Calls + Drop>(
     dom: DomId,
     request: Request<'_>,
 ) -> Result<Result<Answer, Came>, Stop> {
-    let place = both.place_of(dom);
-    for _ in 0..scarce.begin() {
+    let place = both.domain_place(dom);
+    for _ in 0..scarce.prepare_call() {
         match both.ask(rt, scarce, place, request)? {
             Asked::Alike(answer) => return Ok(Ok(answer)),
             Asked::Otherwise => return Ok(Err(Came::Otherwise)),

@@ -55,7 +55,7 @@ impl Scarce {
 
     /// Prepares the next call, which gets no memory at first. Returns how often it may be made: twice if memory is
     /// plentiful, since the system may refuse one allocation.
-    pub fn begin(&mut self) -> usize {
+    pub fn prepare_call(&mut self) -> usize {
         self.bytes = 0;
         // Memory that was freed may wait in lists of small blocks. Only a whole flood takes it.
         self.is_closed = false;

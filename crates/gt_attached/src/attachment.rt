@@ -42,7 +42,7 @@ pub struct LeftDomain {
 }
 
 // Ends the copy that the domain is in, if it is in one.
-fn settle<P: Allows>(
+fn end_copy<P: Allows>(
     monitor: &Monitor<P>,
     domain: &mut Domain,
     is_copying: bool,
@@ -95,7 +95,7 @@ impl Attachment {
             is_copying,
             pending,
         } = self;
-        settle(monitor, &mut domain, is_copying, &pending);
+        end_copy(monitor, &mut domain, is_copying, &pending);
         depart(monitor, domain)
     }
 }

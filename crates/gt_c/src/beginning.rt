@@ -12,7 +12,9 @@ use crate::handle::DomainHandle;
 use crate::lending::lent_mut;
 use gt_allow::AllowTable;
 use gt_attached::{AttachedDomain, AttachedOutcome, EncodedAnswer};
-use gt_start::{DomainSettings, EncodedFault, HANDLES, MEMORY, NONE, begin, type_name, type_of};
+use gt_start::{
+    DomainSettings, EncodedFault, HANDLES, MEMORY, NONE, begin_run, type_name, type_of,
+};
 use std::alloc::{AllocError, Global};
 
 // Puts each domain of the run with this number into a box, in order.
@@ -76,7 +78,7 @@ pub extern "C" fn gthost_start_at(
     if out.len() != settings.len() || is_any_live(out) {
         return HANDLES;
     }
-    let guests = match begin(alloc, settings, first_gen, policy) {
+    let guests = match begin_run(alloc, settings, first_gen, policy) {
         Ok(guests) => guests,
         Err(fault) => return fault,
     };
@@ -88,7 +90,7 @@ pub extern "C" fn gthost_start_at(
 }
 
 // Ends the copy of a domain, if it is in one.
-fn settle(attached: &mut AttachedDomain<AllowTable>)
+fn end_copy(attached: &mut AttachedDomain<AllowTable>)
     ensures settled { Settles attached.old attached.new }
     ensures idle { attached.new.copying ≡ None }
 {
@@ -116,7 +118,7 @@ pub extern "C" fn gthost_finish_at(alloc: Global, domain: &mut DomainHandle) -> 
 fn made_ready(attached: &mut AttachedDomain<AllowTable>) -> EncodedAnswer
     ensures { MakesReady attached.old attached.new result }
 {
-    settle(attached);
+    end_copy(attached);
     let remains = attached.reset();
     EncodedAnswer::of(AttachedOutcome::Left(remains))
 }

@@ -16,8 +16,8 @@ use Rattle.gt_check_command.specs.declared.explaining.WhyRequest.{WhyRequest}
 use Rattle.gt_policy_questions.specs.Pairs.{ArePairsOf}
 use Rattle.gt_policy_questions.specs.declared.asking.PairsReport.{PairsReport}
 use Rattle.gt_check_command.specs.Reporting.{WritesFindings}
-use Rattle.gt_check_command.specs.declared.fault.WhyFault.{WhyFault}
-use Rattle.gt_check_command.specs.declared.fault.WhyFault.TheVariants.{Text, NoSource, NoTarget, NoPermission}
+use Rattle.gt_policy_reasons.specs.declared.faults.WhyFault.{WhyFault}
+use Rattle.gt_policy_reasons.specs.declared.faults.WhyFault.TheVariants.{Text, NoSource, NoTarget, NoPermission}
 use Rattle.gt_policy_list.specs.Faults.{listing_fault_of, listing_read_fault}
 use Rattle.gt_policy_list.specs.Reading.{IsNoText}
 use Rattle.gt_policy_list.specs.declared.fault.ListingFault.{ListingFault}

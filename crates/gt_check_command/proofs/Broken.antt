@@ -21,8 +21,8 @@ use Rattle.gt_text.specs.declared.fault.ReadFault.{ReadFault}
 use Rattle.gt_text.specs.declared.fault.ReadFault.TheVariants as read_faults
 use Rattle.gt_check_command.specs.Breaking.{CheckedNever, CheckedNeverText, WritesBreaches, WritesWords}
 use Rattle.gt_check_command.specs.Reporting.{WritesFindings}
-use Rattle.gt_check_command.specs.declared.fault.BreachFault.{BreachFault}
-use Rattle.gt_check_command.specs.declared.fault.BreachFault.TheVariants.{ForbidsNothing, Policy, Statements}
+use Rattle.gt_policy_reasons.specs.declared.faults.BreachFault.{BreachFault}
+use Rattle.gt_policy_reasons.specs.declared.faults.BreachFault.TheVariants.{ForbidsNothing, Policy, Statements}
 use Rattle.gt_check_command.proofs.Advised.{checked_no, whole_read}
 
 module _ (form : ReportForm) (never given file : List ℕ) where

@@ -16,8 +16,8 @@ use Rattle.gt_neverflow.specs.declared.finding.NeverFindings.{NeverFindings}
 use Rattle.gt_neverallow.specs.declared.fault.NeverFault.TheVariants as never_faults
 use Rattle.gt_text.specs.Streams.{AppendsBeginning}
 use Rattle.gt_check_command.specs.Checking.{Checked}
-use Rattle.gt_check_command.specs.declared.fault.BreachFault.{BreachFault}
-use Rattle.gt_check_command.specs.declared.fault.BreachFault.TheVariants.{ForbidsNothing, Policy, Statements}
+use Rattle.gt_policy_reasons.specs.declared.faults.BreachFault.{BreachFault}
+use Rattle.gt_policy_reasons.specs.declared.faults.BreachFault.TheVariants.{ForbidsNothing, Policy, Statements}
 
 -- the report of what was found went out, or a prefix of it; the result is whether there are no breaches
 abbrev pub WritesBreaches : ReportForm → List ℕ → List ℕ → List ℕ → List ℕ → NeverFindings → Option (List ℕ)

@@ -8,8 +8,8 @@ use Rattle.gt_policy_statements.specs.declared.asking.WhyAnswer.{WhyAnswer}
 use Rattle.gt_policy_statements.specs.declared.asking.WhyAnswer.TheVariants as why_answers
 use Rattle.gt_policy_statements.specs.declared.asking.Explanation.{Explanation}
 use Rattle.gt_policy_statements.specs.declared.asking.WhyQuestion.{WhyQuestion}
-use Rattle.gt_check_command.specs.declared.fault.WhyFault.{WhyFault}
-use Rattle.gt_check_command.specs.declared.fault.WhyFault.TheVariants.{Text, NoSource, NoTarget, NoPermission}
+use Rattle.gt_policy_reasons.specs.declared.faults.WhyFault.{WhyFault}
+use Rattle.gt_policy_reasons.specs.declared.faults.WhyFault.TheVariants.{Text, NoSource, NoTarget, NoPermission}
 use Rattle.gt_check_command.specs.declared.explaining.WhyRequest.{WhyRequest}
 use Rattle.gt_policy_list.specs.Reading.{IsNotUtf8At, IsFaulty}
 use Rattle.gt_policy_list.specs.declared.fault.ListingFault.TheVariants.{Utf8, Policy, Memory, Read, Write}

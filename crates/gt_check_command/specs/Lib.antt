@@ -1,7 +1,6 @@
 pub mod Breaking
 pub mod Checking
 pub mod Explaining
-pub mod Faults
 pub mod Judging
 pub mod Scripts
 pub mod Reporting

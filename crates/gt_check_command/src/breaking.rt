@@ -5,22 +5,15 @@ ghost use Rattle.gt_neverflow.specs.Printing.{IsNeverReport};
 ghost use Rattle.gt_text.specs.Streams.{OfInput};
 ghost use Rattle.gt_check_command.specs.Breaking.{CheckedNever, CheckedNeverText, WritesBreaches, WritesWords};
 
-use crate::fault::BreachFault;
 use crate::reporting::write_findings;
 use gt_findings::{Finding, ReportForm};
 use gt_neverallow::NeverFault;
 use gt_neverflow::{BrokenTexts, NeverFindings, breaches, push_never_findings};
 use gt_policy_list::{ListingFault, policy_text};
+use gt_policy_reasons::{BreachFault, NeverText};
 use gt_text::{finish, read_text};
 use std::alloc::{AllocError, Global};
 use std::io::{Read, Write};
-
-/// A text of `neverallow` and `neverflow` statements, with the name with which lines about it begin.
-#[derive(Clone, Copy)]
-pub struct NeverText<'t> {
-    pub file: &'t str,
-    pub text: &'t str,
-}
 
 // Prints what was found.
 fn report(

@@ -6,9 +6,9 @@ ghost use Rattle.gt_text.specs.Streams.{OfInput};
 ghost use Rattle.gt_check_command.specs.Explaining.{AskedOf, Explained, WritesAnswer, WritesLines};
 ghost use Rattle.gt_check_command.specs.Explaining.{pairs_perm, share_text, share_word, why_text};
 
-use crate::fault::WhyFault;
 use gt_policy_list::{ListingFault, policy_text};
 use gt_policy_questions::{PairsQuestion, PairsReport, pairs};
+use gt_policy_reasons::WhyFault;
 use gt_policy_statements::{Explanation, WhyAnswer, WhyQuestion};
 use gt_text::{finish, push_number, push_text, read_text};
 use gt_types::Perms;

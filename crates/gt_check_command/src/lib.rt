@@ -20,13 +20,11 @@
 mod breaking;
 mod checking;
 mod explaining;
-mod fault;
 mod reporting;
 mod script_findings;
 mod scripts;
 
-pub use breaking::{NeverText, check_never};
+pub use breaking::check_never;
 pub use checking::check;
 pub use explaining::{WhyRequest, why};
-pub use fault::{BreachFault, WhyFault};
 pub use scripts::check_script;

@@ -69,6 +69,7 @@ read_rows mode given rows is = ap (λ (rs : List Row). read mode (λ id. first_o
       flag_at_end (usage_of Explore) given (codes "summary"),
       value_at_end (usage_of Explore) given (codes "diff") refl,
       value_at_end (usage_of Explore) given (codes "never-state") refl,
+      flag_at_end (usage_of Explore) given (codes "races"),
       value_at_end (usage_of Explore) given (codes "format") refl,
       value_at_end (usage_of Explore) given (codes "has") refl,
       value_at_end (usage_of Explore) given (codes "states") refl,

@@ -59,7 +59,7 @@ abbrev pub usage_of : Mode → Usage
 usage_of Play = runner_usage
 usage_of Run = runner_usage
 usage_of Explore = record common_usage {
-  flags = codes "summary" ∷ codes "verbose" ∷ [];
+  flags = codes "summary" ∷ codes "races" ∷ codes "verbose" ∷ [];
   options = codes "find" ∷ codes "never" ∷ codes "always" ∷ codes "claims" ∷ codes "has" ∷ codes "witness"
       ∷ codes "trace" ∷ codes "diff" ∷ codes "never-state" ∷ codes "states" ∷ codes "format" ∷ [];
 }
@@ -114,7 +114,8 @@ gthost_app = fold with_mode bare_app every_mode
 
 -- what an exploration seeks: all texts, the verdict on a claim, the verdicts on the claims of a text, a script for the
 -- text of a number, one for each, the moves that lead to the text of a number, as lines or as a diagram, how many texts
--- have each answer, where the texts of two numbers differ, or the verdict on a claim about what entries show
+-- have each answer, where the texts of two numbers differ, the verdict on a claim about what entries show, or the lines
+-- that race
 pub data Sought : Type 0 where
   all_texts : Sought
   a_claim : Claim → Text → Sought
@@ -126,6 +127,7 @@ pub data Sought : Type 0 where
   a_summary : Sought
   a_difference : ℕ → ℕ → Sought
   a_state_claim : Text → Sought
+  all_races : Sought
 
 -- To play a script, to run one, to explore one, to find the text of a file among its texts, to list a policy, to list
 -- the rules, to check a policy or a script, to check a policy against the neverallow statements of a file, to explain
@@ -217,6 +219,11 @@ abbrev pub state_option : Option Text → Option (Option Sought)
 state_option None = Some None
 state_option (Some claim) = Some (Some (a_state_claim claim))
 
+-- `--races`, if it is given
+abbrev pub races_option : Bool → Option (Option Sought)
+races_option true = Some (Some all_races)
+races_option false = Some None
+
 -- `--find EXPR`, `--never EXPR` or `--always EXPR`, of which only one may be given
 abbrev pub claim_of : Option Text → Option Text → Option Text → Option (Option Sought)
 claim_of None None None = Some None
@@ -293,15 +300,17 @@ diagram_of (Some (one_diagram number)) = None
 diagram_of (Some a_summary) = None
 diagram_of (Some (a_difference one other)) = None
 diagram_of (Some (a_state_claim claim)) = None
+diagram_of (Some all_races) = None
 
--- what is sought is the verdict on a claim about what entries show
-abbrev pub is_of_states : Option Sought → Bool
-is_of_states (Some (a_state_claim claim)) = true
-is_of_states _ = false
+-- what is sought is answered in text only: the verdict on a claim about what entries show, or the lines that race
+abbrev pub is_text_only : Option Sought → Bool
+is_text_only (Some (a_state_claim claim)) = true
+is_text_only (Some all_races) = true
+is_text_only _ = false
 
--- what is sought as JSON; a claim about what entries show has no such answer
+-- what is sought as JSON
 abbrev pub json_of : Option Sought → Option (Option Sought × Format)
-json_of sought = if is_of_states sought then None else Some (sought, Json)
+json_of sought = if is_text_only sought then None else Some (sought, Json)
 
 -- what is sought in a form, with its format
 abbrev pub formed : ExploreForm → Option Sought → Option (Option Sought × Format)
@@ -378,12 +387,14 @@ read Explore value = explore_with
     (sought_too
     (sought_too
     (sought_too
+    (sought_too
     (one_sought
     (claims_of (claim_of (value (codes "find")) (value (codes "never")) (value (codes "always")))
     (value (codes "claims")))
     (witness_of (value (codes "witness"))) (trace_option (value (codes "trace"))))
     (summary_option (is_true (value (codes "summary"))))) (diff_option (value (codes "diff"))))
     (state_option (value (codes "never-state"))))
+    (races_option (is_true (value (codes "races")))))
     (explore_form_of (value (codes "format")))) (value (codes "has"))
     (states_of (value (codes "states"))) (value (codes "file"))
 read Policy value = list_with (format_of (value (codes "format"))) (is_true (value (codes "verbose")))
@@ -451,6 +462,7 @@ sought_by (explorations.Diagram number) = one_diagram number
 sought_by explorations.Summary = a_summary
 sought_by (explorations.Difference one other) = a_difference one other
 sought_by (explorations.NeverState claim) = a_state_claim claim.now
+sought_by explorations.Races = all_races
 
 -- what a plan asks for
 abbrev pub asked_by_plan : Invocation → Request

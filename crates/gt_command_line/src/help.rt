@@ -88,6 +88,7 @@ Options:
       --summary          Print the lines whose answers vary, and how often
       --diff <K,L>       Print the lines in which outputs K and L differ
       --never-state <S>  Claim that entries never show S at one moment
+      --races            Print the pairs of lines that race for a byte
       --states <N>       Stop after N states [default: 1000000]
       --format <FORM>    Print text, json, or mermaid (--trace) [default: text]
   -h, --help             Print help

@@ -91,6 +91,8 @@ pub enum Exploration<'a> {
     Difference(usize, usize),
     /// The verdict on the claim that entries show this at no moment.
     NeverState(&'a str),
+    /// The pairs of lines that race.
+    Races,
 }
 
 /// The options of `explore` beside what it is asked for.

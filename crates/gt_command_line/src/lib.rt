@@ -12,6 +12,7 @@
 #![tactic(auto)]
 
 mod claiming;
+mod commands;
 mod exploring;
 mod help;
 mod invocation;

@@ -44,9 +44,10 @@ const FORMAT: Part = Part::Free("format", "text|json");
 // The parts of `play` and of `run`.
 static RUNNER_PARTS: [Part; 4] = [FILE, Part::Flag("audit"), VERBOSE, FORMAT];
 
-static EXPLORE_PARTS: [Part; 14] = [
+static EXPLORE_PARTS: [Part; 15] = [
     FILE,
     Part::Flag("summary"),
+    Part::Flag("races"),
     VERBOSE,
     Part::Free("find", "EXPR"),
     Part::Free("never", "EXPR"),

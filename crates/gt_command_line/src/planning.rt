@@ -6,21 +6,19 @@ ghost use Rattle.clap.specs.Words.{subcommand_of, rows_of, found_of, first_of, k
 ghost use Rattle.clap.specs.declared.error.kind.ErrorKind.TheVariants.{InvalidValue, OutOfMemory};
 ghost use Rattle.gt_command_line.specs.Files.{file_names_of};
 ghost use Rattle.gt_command_line.specs.Usage.{is_true};
-ghost use Rattle.gt_command_line.specs.Commands.{request_in_words, asked_by_some, asked_named, check_with, entries_with};
-ghost use Rattle.gt_command_line.specs.Commands.{IsInvocationOf, IsPlanOf, gthost_app, list_with};
-ghost use Rattle.gt_command_line.specs.Commands.{command_name, mode_of, more_files, play_with, read, run_with, why_with};
-ghost use Rattle.gt_command_line.specs.Commands.{flow_with};
+ghost use Rattle.gt_command_line.specs.Commands.{request_in_words, asked_by_some, asked_named, command_name};
+ghost use Rattle.gt_command_line.specs.Commands.{IsInvocationOf, IsPlanOf, gthost_app, mode_of, more_files, read};
 ghost use Rattle.gt_command_line.specs.declared.invocation.Mode.TheVariants as modes;
 
-use crate::exploring::{explore_with, formed_of, one_sought};
-use crate::invocation::{
-    CheckedFiles, EntriesOptions, FlowOptions, Format, Invocation, MODES, Mode, MoreFiles,
-    ScriptOptions,
+use crate::commands::{
+    check_with, entries_with, flow_with, list_with, play_with, run_with, why_with,
 };
+use crate::exploring::{explore_with, formed_of, one_sought};
+use crate::invocation::{Invocation, MODES, Mode, MoreFiles};
 use crate::line::gthost_command;
 use crate::values::{
-    claim_of, claims_of, diff_of, form_of, format_of, script_of, sought_too, state_claim_of,
-    states_of, summary_of, trace_of, type_of, version_of, witness_of,
+    claim_of, claims_of, diff_of, form_of, format_of, races_of, script_of, sought_too,
+    state_claim_of, states_of, summary_of, trace_of, version_of, witness_of,
 };
 use clap::error::ErrorKind;
 use clap::{ArgMatches, Error};
@@ -62,162 +60,6 @@ fn is_set(matches: &ArgMatches<'_>, id: &str) -> bool
     }
 }
 
-fn play_with<'a>(
-    format: Option<Format>,
-    audit: bool,
-    verbose: bool,
-    file: Option<&'a str>,
-) -> Option<Invocation<'a>>
-    ensures { asked_by_some result ≡ play_with format audit verbose (option_map (λ v. v.now) file.entry) }
-{
-    match format {
-        Some(format) => Some(Invocation::Play(ScriptOptions {
-            audit,
-            verbose,
-            format,
-            file,
-        })),
-        None => None,
-    }
-}
-
-fn run_with<'a>(
-    format: Option<Format>,
-    audit: bool,
-    verbose: bool,
-    file: Option<&'a str>,
-) -> Option<Invocation<'a>>
-    ensures { asked_by_some result ≡ run_with format audit verbose (option_map (λ v. v.now) file.entry) }
-{
-    match format {
-        Some(format) => Some(Invocation::Run(ScriptOptions {
-            audit,
-            verbose,
-            format,
-            file,
-        })),
-        None => None,
-    }
-}
-
-fn list_with<'a>(
-    format: Option<Format>,
-    verbose: bool,
-    file: Option<&'a str>,
-) -> Option<Invocation<'a>>
-    ensures { asked_by_some result ≡ list_with format verbose (option_map (λ v. v.now) file.entry) }
-{
-    match format {
-        Some(format) => Some(Invocation::Policy {
-            verbose,
-            format,
-            file,
-        }),
-        None => None,
-    }
-}
-
-fn check_with<'a>(
-    format: Option<Format>,
-    script: bool,
-    never: Option<&'a str>,
-    file: Option<&'a str>,
-    more: MoreFiles<'a>,
-) -> Option<Invocation<'a>>
-    ensures { asked_by_some result ≡ check_with format script (option_map (λ v. v.now) never.entry)
-        (option_map (λ v. v.now) file.entry) (file_names_of more.entry) }
-{
-    match (format, never, script) {
-        (Some(format), None, script) => Some(Invocation::Check {
-            script,
-            files: CheckedFiles { format, file, more },
-        }),
-        (Some(format), Some(never), false) => Some(Invocation::CheckNever {
-            never,
-            files: CheckedFiles { format, file, more },
-        }),
-        _ => None,
-    }
-}
-
-fn why_with<'a>(
-    source: Option<&'a str>,
-    target: Option<&'a str>,
-    permission: Option<&'a str>,
-    each: bool,
-    file: Option<&'a str>,
-) -> Option<Invocation<'a>>
-    ensures { asked_by_some result ≡ why_with (option_map (λ v. v.now) source.entry)
-        (option_map (λ v. v.now) target.entry) (option_map (λ v. v.now) permission.entry) each
-        (option_map (λ v. v.now) file.entry) }
-{
-    match (source, target, permission, file) {
-        (Some(source), Some(target), Some(permission), file) => Some(Invocation::Why {
-            source: type_of(Some(source)),
-            target: type_of(Some(target)),
-            permission: type_of(Some(permission)),
-            each,
-            file,
-        }),
-        (Some(file), None, None, None) => Some(Invocation::WhyLines { each, file }),
-        _ => None,
-    }
-}
-
-fn flow_with<'a>(
-    format: Option<Format>,
-    script: bool,
-    source: Option<&'a str>,
-    target: Option<&'a str>,
-    trusted: Option<&'a str>,
-    file: Option<&'a str>,
-) -> Option<Invocation<'a>>
-    ensures { asked_by_some result ≡ flow_with format script (option_map (λ v. v.now) source.entry)
-        (option_map (λ v. v.now) target.entry) (option_map (λ v. v.now) trusted.entry)
-        (option_map (λ v. v.now) file.entry) }
-{
-    match (format, source, target) {
-        (Some(format), Some(source), Some(target)) => Some(Invocation::Flow {
-            source: type_of(Some(source)),
-            target: type_of(Some(target)),
-            options: FlowOptions {
-                script,
-                trusted,
-                format,
-            },
-            file,
-        }),
-        _ => None,
-    }
-}
-
-fn entries_with<'a>(
-    version: Option<u8>,
-    script: Option<Option<u16>>,
-    format: Option<Format>,
-    hex: bool,
-    all: bool,
-    file: Option<&'a str>,
-) -> Option<Invocation<'a>>
-    ensures { asked_by_some result ≡ entries_with version script format hex all
-        (option_map (λ v. v.now) file.entry) }
-{
-    match (version, script, format) {
-        (Some(_), Some(Some(_)), Some(Format::Json)) => None,
-        (Some(version), Some(script), Some(format)) => Some(Invocation::Entries {
-            dump: EntriesOptions {
-                version,
-                hex,
-                all,
-                script,
-            },
-            format,
-            file,
-        }),
-        _ => None,
-    }
-}
-
 // Returns the FILEs of `check` after the first.
 fn more_files<'a>(matches: &ArgMatches<'a>) -> MoreFiles<'a>
     ensures { file_names_of result ≡ map (λ id. first_of id (rows_of (found_of matches.now))) more_files }
@@ -248,8 +90,9 @@ fn read_explore<'a>(matches: &ArgMatches<'a>) -> Option<Invocation<'a>>
     let summary = summary_of(is_set(matches, "summary"));
     let diff = diff_of(value_of(matches, "diff"));
     let state = state_claim_of(value_of(matches, "never-state"));
+    let races = races_of(is_set(matches, "races"));
     let texts = sought_too(sought_too(one_sought(claim, witness, trace), summary), diff);
-    let sought = sought_too(texts, state);
+    let sought = sought_too(sought_too(texts, state), races);
     let form = form_of(value_of(matches, "format"));
     explore_with(
         formed_of(sought, form),
@@ -388,9 +231,11 @@ fn refused_by_explore<'a>(matches: &ArgMatches<'a>) -> (&'static str, Option<&'a
         ("--format mermaid is only for --trace", None)
     } else if format == Some("json") && value_of(matches, "never-state").is_some() {
         ("--format json is not for --never-state", None)
+    } else if format == Some("json") && is_set(matches, "races") {
+        ("--format json is not for --races", None)
     } else {
         (
-            "only claims (--find, --never, --always), or one of --claims, --never-state, --has, --witness, --trace, --summary and --diff can be given",
+            "only claims (--find, --never, --always), or one of --claims, --never-state, --races, --has, --witness, --trace, --summary and --diff can be given",
             None,
         )
     }

@@ -3,7 +3,7 @@ ghost use Rattle.std.specs.Prelude.{◌≡◌};
 ghost use Rattle.std.specs.Option.{option_map};
 ghost use Rattle.gt_command_line.specs.Commands.{diagram_of, explore_form_of, format_of, formed, domain_number, number_up_to, script_of, states_of, type_of};
 ghost use Rattle.gt_command_line.specs.Commands.{claim_of, claims_of, diff_option, sought_of, sought_by, sought_too};
-ghost use Rattle.gt_command_line.specs.Commands.{is_of_states, json_of, state_option};
+ghost use Rattle.gt_command_line.specs.Commands.{is_text_only, json_of, races_option, state_option};
 ghost use Rattle.gt_command_line.specs.Commands.{summary_option, trace_option, version_of, witness_of};
 
 use crate::invocation::{Exploration, Format};
@@ -57,16 +57,16 @@ fn diagram_of<'a>(sought: Option<Exploration<'a>>) -> Option<(Option<Exploration
         Some(Exploration::Decide { .. } | Exploration::Claims(_)) => None,
         Some(Exploration::Witness(_) | Exploration::Diagram(_)) => None,
         Some(Exploration::Summary | Exploration::Difference(_, _)) => None,
-        Some(Exploration::NeverState(_)) => None,
+        Some(Exploration::NeverState(_) | Exploration::Races) => None,
     }
 }
 
-// Returns whether a claim about states is asked for.
-fn is_of_states(sought: Option<Exploration<'_>>) -> bool
-    ensures { result ≡ is_of_states (option_map sought_by sought.entry) }
+// Returns whether what is asked for is answered in text only: a claim about states, or the lines that race.
+fn is_text_only(sought: Option<Exploration<'_>>) -> bool
+    ensures { result ≡ is_text_only (option_map sought_by sought.entry) }
 {
     match sought {
-        Some(Exploration::NeverState(_)) => true,
+        Some(Exploration::NeverState(_) | Exploration::Races) => true,
         None => false,
         Some(Exploration::Texts | Exploration::Witnesses) => false,
         Some(Exploration::Decide { .. } | Exploration::Claims(_)) => false,
@@ -75,19 +75,19 @@ fn is_of_states(sought: Option<Exploration<'_>>) -> bool
     }
 }
 
-// Returns what is asked for in JSON, with its format. None for a claim about states.
+// Returns what is asked for in JSON, with its format. None for what is answered in text only.
 fn json_of<'a>(sought: Option<Exploration<'a>>) -> Option<(Option<Exploration<'a>>, Format)>
     ensures { option_map (λ p. (option_map sought_by p.0, p.1)) result
         ≡ json_of (option_map sought_by sought.entry) }
 {
-    if is_of_states(sought) {
+    if is_text_only(sought) {
         return None;
     }
     Some((sought, Format::Json))
 }
 
-/// Returns what is asked for in this form, with its format. Only a trace can be a diagram, and a claim about states is
-/// answered in text only.
+/// Returns what is asked for in this form, with its format. Only a trace can be a diagram. A claim about states and the
+/// lines that race are answered in text only.
 pub(crate) fn formed<'a>(
     form: ExploreForm,
     sought: Option<Exploration<'a>>,
@@ -191,6 +191,17 @@ pub(crate) fn summary_of<'a>(is_given: bool) -> Option<Option<Exploration<'a>>>
 {
     if is_given {
         Some(Some(Exploration::Summary))
+    } else {
+        Some(None)
+    }
+}
+
+/// Returns what `--races` asks for, if it is given.
+pub(crate) fn races_of<'a>(is_given: bool) -> Option<Option<Exploration<'a>>>
+    ensures { option_map (option_map sought_by) result ≡ races_option is_given }
+{
+    if is_given {
+        Some(Some(Exploration::Races))
     } else {
         Some(None)
     }

@@ -23,7 +23,7 @@ use Rattle.gt_core.proofs.{Phases.OfAction, Phases.IsHere, Phases.makes-same, Ea
 use Rattle.gt_core.proofs.{Legs.IsLegOf, Legs.Words, PinPurposes.pair_of, PinPurposes.leg-here, Phases.words-of, Phases.next_of}
 use Rattle.gt_core.proofs.{Outcomes.walk-done, Steps.See.table-fits}
 use Rattle.gt_model.specs.declared.action.CallResult.TheVariants.{Mapped}
-use Rattle.gt_model.specs.Path.{place_of}
+use Rattle.gt_model.specs.Path.{end_spot}
 use Rattle.gt_calls.specs.Resting.{IsCopyOf}
 
 -- the next phase of a call that queries a header
@@ -144,7 +144,7 @@ call-ends s h xs d r shown so_far phase step i = subst (OfAction (Led phase)) i.
       (cond_both (w gref == looked) Taken (Missed (w gref)) (λ v. AtEnd Q (action_at d (phase_after k d (Changing gref change more looked) v))) (λ y read. turn-value s h d r gref change (Some z) a.1)
       (λ y. cond_both (nat_lt 0 more) (Looking gref change (more - 1)) (refused_as d gref N18 (w gref)) (λ p. AtEnd Q (action_at d p)) (λ x. tt) (λ x. tt)))
   by (Walking pin_purpose l at) a b e held = λ v n. walked pin_purpose l at v a.1 (leg-here s h d r pin_purpose l a.1 held) b.1 (walk-done k d pin_purpose l (leg_after l at (seen_by s h d (leg_step l at))) v n)
-  by (Accessing c source dest) a b e held = let z = call_steps.Copy (place_of d c.source source) (place_of d c.dest dest) c.len in
+  by (Accessing c source dest) a b e held = let z = call_steps.Copy (end_spot d c.source source) (end_spot d c.dest dest) c.len in
       led (Accessing c source dest) z (give-end (EndsWith s h d r (Accessing c source dest) z) (last_first (record { source = source; dest = dest })) Granted (λ read. copied s h d r c z a.0))
   by (Asking dom queries.Size) a b e held = let t = header_of (header_word (table_at s h dom)) in led (Asking dom queries.Size) (LookHeader dom)
       (subst (λ (z : OpenRequest). GivesValue s h d z (Some (LookHeader dom)) (Size (record { frames = t.frames; max = MAX_TABLE_FRAMES }))) (sym b.1)

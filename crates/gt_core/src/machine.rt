@@ -152,7 +152,7 @@ impl<P: Allows> Machine<P> {
             Judged::Open(open) => {
                 asked_fits(open.call.request);
                 let alloc = self.alloc;
-                self.domains[at].begin(alloc, open, given_by(request))?;
+                self.domains[at].start_call(alloc, open, given_by(request))?;
                 Ok(Begun::Open)
             }
             Judged::Answered(verdict) => Ok(Begun::Done(answer_of(verdict))),
@@ -231,7 +231,13 @@ impl<P: Allows> Machine<P> {
 
     // Does what this action requires: keeps the next step of the domain's call, or returns the answer, which ends
     // the call.
-    fn settle(&mut self, at: usize, last: OpenCall, call: Call, action: Action) -> Option<Answer>
+    fn settle_call(
+        &mut self,
+        at: usize,
+        last: OpenCall,
+        call: Call,
+        action: Action,
+    ) -> Option<Answer>
         requires there { at < length self.old.domains.items }
         requires under { (d : State) → slice_get self.old.domains.items at ≡ Some d → d.underway ≡ Some last }
         requires readable { IsReadable self.old.frames last.call last.step }
@@ -285,7 +291,7 @@ impl<P: Allows> Machine<P> {
         };
         let seen = self.perform(at, dom, open)?;
         let (call, action) = self.advance(at, open, seen);
-        let answer = self.settle(at, open, call, action);
+        let answer = self.settle_call(at, open, call, action);
         Ok(ticked_as(open.step, seen, answer))
     }
 

@@ -121,7 +121,7 @@ impl DomainState {
 
     /// Opens a call. Copies the bytes that it is to write, and makes the room that its answer needs. For a map, a
     /// serial must be left.
-    pub fn begin(&mut self, alloc: Global, call: OpenCall, bytes: &[u8]) -> Result<(), Memory>
+    pub fn start_call(&mut self, alloc: Global, call: OpenCall, bytes: &[u8]) -> Result<(), Memory>
         requires { IsMapping (Some call.call.request) → self.old.mappings.given + 1 < 2 ^ 64 }
         ensures opened { OnOk result (self.new ≡ with_open_call call (kept_by call.call.request bytes.now) self.old) }
         ensures refused { OnErr result (self.new ≡ self.old) }
@@ -173,7 +173,7 @@ impl DomainState {
         }
     }
 
-    /// Closes a map, and keeps its pin as a new mapping, with the next serial. `begin` made the room for it.
+    /// Closes a map, and keeps its pin as a new mapping, with the next serial. `start_call` made the room for it.
     pub fn add_mapping(&mut self, held: HeldPin) -> Handle
         requires { IsMapping (asked_in self.old.underway) }
         ensures adds { Adds self.old.mappings self.new.mappings result held }

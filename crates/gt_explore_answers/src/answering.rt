@@ -242,7 +242,7 @@ fn all_texts(alloc: Global, found: &FoundTexts) -> Result<ExploreOutput, TextsFa
 }
 
 /// Returns the index of a text among those of these orders, if it is one of them.
-pub fn place_of(orders: &[FoundText], text: &[u8]) -> Option<usize>
+pub fn text_place(orders: &[FoundText], text: &[u8]) -> Option<usize>
     ensures place { result ≡ position (λ o. bytes_eq o.text.items text.now) orders.now }
     ensures within { IfSome result (λ at. at < length orders.now) }
 {
@@ -263,7 +263,7 @@ fn number_of(alloc: Global, found: &FoundTexts, given: &[u8]) -> Result<ExploreO
     ensures { (c : RunContents) → AreTextsOf c (found_from found.now) →
         IfOk result (λ made. NumbersText c given.now (found_from found.now) made.text.items made.verdict) }
 {
-    let place = place_of(found.texts.as_slice(), given);
+    let place = text_place(found.texts.as_slice(), given);
     let verdict = verdict_on(place, found.whole);
     let mut text = Vec::new(alloc);
     push_place(&mut text, found, place)?;

@@ -8,7 +8,7 @@ ghost use Rattle.gt_explore_answers.specs.Given.{answer_places, ends_in_cr, faul
 ghost use Rattle.gt_explore_answers.specs.Given.{is_right_at, line_fault, answer_places_of, refused_text, wrong_from};
 ghost use Rattle.gt_explore_answers.specs.Outputs.{found_from};
 
-use crate::answering::place_of;
+use crate::answering::text_place;
 use crate::asking::ExploreRequest;
 use crate::conditions::is_call;
 use crate::found::FoundTexts;
@@ -173,7 +173,7 @@ fn first_wrong(
 fn is_found(found: &FoundTexts, text: &[u8]) -> bool
     ensures { result ≡ is_some (index_of_text text.now (found_from found.now).texts) }
 {
-    match place_of(found.texts.as_slice(), text) {
+    match text_place(found.texts.as_slice(), text) {
         Some(_) => true,
         None => false,
     }

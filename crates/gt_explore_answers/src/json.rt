@@ -3,7 +3,7 @@ ghost use Rattle.std.specs.Prelude.{◌≡◌, ◌++◌, IfOk};
 ghost use Rattle.gt_explore_answers.specs.Objects.{summary};
 ghost use Rattle.gt_explore_answers.specs.Outputs.{found_from};
 
-use crate::answering::{ExploreOutput, place_of, script_of, verdict_of_all, verdict_on};
+use crate::answering::{ExploreOutput, script_of, text_place, verdict_of_all, verdict_on};
 use crate::asking::ExploreRequest;
 use crate::conditions::satisfied;
 use crate::found::FoundTexts;
@@ -200,7 +200,7 @@ impl ObjectWriter<'_, '_> {
         ensures { IfOk result (λ made. ShowsObjects limit (ShowsGiven (run_contents self.now.script.now) given.now)
             (found_from self.now.found.now) made.text.items made.verdict) }
     {
-        let place = place_of(self.found.texts.as_slice(), given);
+        let place = text_place(self.found.texts.as_slice(), given);
         let mut text = Vec::new(self.alloc);
         self.push_text(&mut text, false, place)?;
         ended(text, self.found, limit, verdict_on(place, self.found.whole))

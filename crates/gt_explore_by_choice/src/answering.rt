@@ -122,7 +122,7 @@ fn claim_made(
 }
 
 // Returns the index of a text among those of these orders, if it is one of them.
-fn place_of(orders: &[FoundText], text: &[u8]) -> Option<usize>
+fn text_place(orders: &[FoundText], text: &[u8]) -> Option<usize>
     ensures place { result ≡ position (λ o. bytes_eq o.text.items text.now) orders.now }
     ensures within { IfSome result (λ at. at < length orders.now) }
 {
@@ -143,7 +143,7 @@ fn number_of(alloc: Global, found: &FoundTexts, given: &[u8]) -> Result<ExploreO
     ensures { (source : List ℕ) → AreTextsOfChoices source (found_from found.now) →
         IfOk result (λ made. NumbersByChoices source given.now (found_from found.now) made.text.items made.verdict) }
 {
-    let place = place_of(found.texts.as_slice(), given);
+    let place = text_place(found.texts.as_slice(), given);
     let verdict = verdict_on(place, found.whole);
     let text = place_shown(alloc, found, place)?;
     Ok(ExploreOutput { text, verdict })

@@ -1,3 +1,4 @@
+pub mod Doers
 pub mod Waiting
 pub mod Joined
 pub mod Spaces

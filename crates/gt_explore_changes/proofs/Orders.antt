@@ -12,14 +12,16 @@ use Rattle.gt_explore_changes.specs.Fewest.{HasAtLeast}
 use Rattle.gt_explore_search.specs.Exploring.{AllTextsFound}
 use Rattle.gt_explore_search.specs.declared.exploring.FoundText.{FoundText}
 use Rattle.gt_explore_search.specs.declared.exploring.SearchResult.{SearchResult}
-use Rattle.gt_explore_changes.specs.Blocks.{blocks_after, blocks_in, blocks_with, is_last}
+use Rattle.gt_explore_changes.specs.Blocks.{blocks_after, blocks_in, blocks_with, is_last, order_blocks}
+use Rattle.gt_explore_changes.proofs.Doers.{turns-no-more}
 use Rattle.gt_explore_changes.specs.Ways.{BlockPoint, block_ways}
 use Rattle.gt_explore_moves.proofs.Ways.{may-follow}
 use Rattle.gt_explore_moves.specs.Scenes.{IsSceneOf}
 use Rattle.gt_explore_moves.specs.Spaces.{Point, printed_by}
 use Rattle.gt_explore_moves.specs.declared.scene.SearchContext.{SearchContext}
-use Rattle.gt_explore_replay.specs.Courses.{AllCoursesEnd, Course, TurnsLead, courses_text, first_courses}
+use Rattle.gt_explore_replay.specs.Courses.{AllCoursesEnd, Course, IsTurnedBy, TurnsLead, courses_text, first_courses}
 use Rattle.gt_explore_replay.specs.Orders.{Happening, IsOrderOf}
+use Rattle.gt_explore_replay.specs.Walking.{HaveOwnIds}
 use Rattle.gt_explore_search.specs.Ways.{GoesTo, text_at}
 use Rattle.gt_explore_search.specs.declared.spaces.Turn.{Turn}
 use Rattle.gt_script.proofs.TypeLemmas.{same_bytes}
@@ -115,9 +117,9 @@ among (p ∷ orders) text (suc at) o there is none = among orders text at o ther
     later true e = absurd (false≢true (sym e))
     later false e = e
 
--- if all were found, and none has the text, each order with it has more blocks
-pub none-within : (scene : SearchContext) (most : ℕ) (c : RunContents) (found : SearchResult) (text : List ℕ) → IsSceneOf c scene → AllTextsFound (block_ways scene most) found
-    → list_any (λ o. bytes_eq o.text.items text) found.orders.items ≡ false → HasAtLeast c text (suc most)
+-- if all were found, and none has the text, the turns of each order with it have more blocks
+none-within : (scene : SearchContext) (most : ℕ) (c : RunContents) (found : SearchResult) (text : List ℕ) → IsSceneOf c scene → AllTextsFound (block_ways scene most) found
+    → list_any (λ o. bytes_eq o.text.items text) found.orders.items ≡ false → (hs : List Happening) (turns : List Turn) → IsTurnedBy c hs turns text → suc most ≤ blocks_in turns
 none-within scene most c found text is all none hs turns turned = by (nat_le (blocks_in turns) most) refl
   where
     by : (b : Bool) → nat_le (blocks_in turns) most ≡ b → suc most ≤ blocks_in turns
@@ -132,3 +134,16 @@ none-within scene most c found text is all none hs turns turned = by (nat_le (bl
         ap (λ (p : Point). flat_map (printed_by p.courses) (range_with_len 0 (length scene.roster.domains.items))) r.2
         ∙ ap (λ (n : ℕ). flat_map (printed_by turned.ends) (range_with_len 0 n)) (sym many) ∙ text-of turned.ends ∙ sym turned.printed in
         absurd (among found.orders.items text f.0 f.1 f.2 (f.3 ∙ same) none)
+
+-- each order has turns
+abbrev pub HaveTurns : Type 0
+HaveTurns = (c : RunContents) (hs : List Happening) (text : List ℕ) → HaveOwnIds c.head.domains → IsOrderOf c hs text → (turns : List Turn) × IsTurnedBy c hs turns text
+
+-- the same of each order
+pub none-fewer : (scene : SearchContext) (most : ℕ) (c : RunContents) (found : SearchResult) (text : List ℕ) → IsSceneOf c scene → HaveTurns → AllTextsFound (block_ways scene most) found
+    → list_any (λ o. bytes_eq o.text.items text) found.orders.items ≡ false → HasAtLeast c text (suc most)
+none-fewer scene most c found text is turned all none hs order =
+    let t = turned c hs text is.setting.apart order in
+    let past : suc most ≤ blocks_in t.0 = none-within scene most c found text is all none hs t.0 t.1 in
+    let least : blocks_in t.0 ≤ order_blocks hs = turns-no-more c hs t.0 text is.setting.apart t.1 in
+    omega (arith, past, least)

@@ -12,6 +12,7 @@ use crate::blocks::blocks_in;
 use crate::space::BlockSpace;
 use gt_explore_faults::TextsFault;
 use gt_explore_moves::SearchContext;
+use gt_explore_replay::every_order_has_turns;
 use gt_explore_search::{FoundText, SearchWatch, Turn, search_within};
 use gt_script::RunScript;
 use std::alloc::Global;
@@ -28,9 +29,9 @@ pub struct FewestBlocks {
 enum FewerBlocks {
     // These turns make an order.
     Found(Vec<Turn>),
-    // No such order exists.
-    Nowhere,
-    // None was found, and the search did not meet all states.
+    // No such order exists. The search met this number of states.
+    Nowhere(usize),
+    // None was found. The search did not meet all states, or memory was wanting.
     Unknown,
 }
 
@@ -59,13 +60,14 @@ fn searched_within<W: SearchWatch>(
     requires numbered { AreNumbered script.now.flags script.now.tasks }
     ensures { IfOk result (IsSearchedWithin (run_contents script.now) text.now most) }
 {
+    every_order_has_turns();
     let scene = SearchContext::new(alloc, script)?;
     let space = BlockSpace { scene, most };
     let partial = search_within(alloc, &space, limit, watch)?;
     match turns_giving(partial.found.orders.as_slice(), text) {
         None => {
             if partial.whole {
-                Ok(FewerBlocks::Nowhere)
+                Ok(FewerBlocks::Nowhere(partial.found.states))
             } else {
                 Ok(FewerBlocks::Unknown)
             }
@@ -80,12 +82,31 @@ fn searched_within<W: SearchWatch>(
     }
 }
 
-/// Returns an order with the same text that has the fewest blocks of all orders with this text, if no search for it
-/// meets more than `limit` states, and no watch ends one. Otherwise it returns the order itself. Nothing is claimed of
-/// the turns of an order: replay them to see what they lead to.
+// Searches as `searched_within` does. Want of memory ends the search as its limit does.
+fn searched_in_memory<W: SearchWatch>(
+    alloc: Global,
+    script: &RunScript<'_>,
+    text: &[u8],
+    most: usize,
+    limit: usize,
+    watch: &mut W,
+) -> Result<FewerBlocks, TextsFault>
+    requires fits { CanConfigure (contents_of script.now.head) }
+    requires numbered { AreNumbered script.now.flags script.now.tasks }
+    ensures { IfOk result (IsSearchedWithin (run_contents script.now) text.now most) }
+{
+    match searched_within(alloc, script, text, most, limit, watch) {
+        Err(TextsFault::Memory) => Ok(FewerBlocks::Unknown),
+        ending => ending,
+    }
+}
+
+/// Returns an order with the same text that has the fewest blocks of all orders with this text. The searches for it
+/// meet at most `limit` states in all. If they would meet more, a watch ends one, or memory is wanting, it returns the
+/// order itself. Nothing is claimed of the turns of an order: replay them to see what they lead to.
 ///
 /// # Errors
-/// `Memory` if an allocation fails, and the other faults of a search.
+/// Those of a search, except `Memory`.
 pub fn with_fewest_blocks<W: SearchWatch>(
     alloc: Global,
     script: &RunScript<'_>,
@@ -100,8 +121,9 @@ pub fn with_fewest_blocks<W: SearchWatch>(
         HasFewestBlocks (run_contents script.now) order.text.items r.order.turns.items) }
 {
     let blocks = blocks_in(order.turns.as_slice());
+    let mut left = limit;
     for most in 0..blocks {
-        match searched_within(alloc, script, order.text.as_slice(), most, limit, watch)? {
+        match searched_in_memory(alloc, script, order.text.as_slice(), most, left, watch)? {
             FewerBlocks::Found(turns) => {
                 let order = FoundText {
                     turns,
@@ -112,7 +134,7 @@ pub fn with_fewest_blocks<W: SearchWatch>(
                     is_fewest: true,
                 });
             }
-            FewerBlocks::Nowhere => {}
+            FewerBlocks::Nowhere(states) => left = left.saturating_sub(states),
             FewerBlocks::Unknown => {
                 return Ok(FewestBlocks {
                     order,

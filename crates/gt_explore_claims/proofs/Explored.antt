@@ -1,5 +1,7 @@
 -- From what was read to what was written of claims.
-use Rattle.std.proofs.Common.{◌≡◌, ℕ, List, Option, Result, Ok, Err, All, Bor, ap, ◌∙◌, inl, inr, refl, subst, sym, take, get_or}
+use Rattle.std.proofs.Common.{◌≡◌, ◌⊎◌, ℕ, List, Option, Some, None, Result, Ok, Err, All, Bor, ap, ◌∙◌, inl, inr, refl, subst, sym, take, get_or}
+use Rattle.std.specs.Io.KnownBytes.{Appends}
+use Rattle.std.specs.Prelude.{IfSome}
 use Rattle.std.specs.Str.{IsUtf8}
 use Rattle.std.specs.Str.Lines.{lines as lines_in}
 use Rattle.gt_call_names.specs.Naming.{with_line_numbers}
@@ -11,6 +13,7 @@ use Rattle.gt_script_runs.specs.Faults.{fault_of}
 use Rattle.gt_script_runs.specs.declared.fault.PlayFault.{PlayFault}
 use Rattle.gt_script_runs.specs.declared.fault.PlayFault.TheVariants as play_faults
 use Rattle.gt_text.specs.Laws.{keeps_same}
+use Rattle.gt_text.specs.Streams.{AppendsBeginning}
 use Rattle.gt_text.specs.declared.streams.TheConstants.{READ_LIMIT}
 use Rattle.gt_explore_answers.specs.declared.asking.ExploreOptions.{ExploreOptions}
 use Rattle.gt_explore_answers.specs.declared.asking.ExploreRequest.{ExploreRequest}
@@ -20,16 +23,18 @@ use Rattle.gt_explore_answers.specs.Outputs.{Found}
 use Rattle.gt_explore_faults.specs.Faults.{claims_memory}
 use Rattle.gt_explore_faults.specs.declared.claims.ClaimsFault.{ClaimsFault}
 use Rattle.gt_explore_faults.specs.declared.claims.ClaimsFault.TheVariants as claims_faults
+use Rattle.gt_explore.specs.Writing.{Explored}
+use Rattle.gt_explore_faults.specs.declared.fault.ExploreFault.{ExploreFault}
 use Rattle.gt_explore_faults.specs.declared.fault.ExploreFault.TheVariants.{Play, Term, Text, Number, Unfound, Texts}
 use Rattle.gt_explore_replay.specs.Orders.{MayGive}
 use Rattle.gt_explore_verdict.proofs.Judged.{judged_means}
-use Rattle.gt_explore_verdict.specs.Formulas.{formula_of}
 use Rattle.gt_explore_verdict.specs.declared.judging.Claim.{Claim}
 use Rattle.gt_explore_verdict.specs.declared.judging.Verdict.{Verdict}
-use Rattle.gt_explore_claims.specs.Deciding.{AreNumberingFailures, IsNumberingFailure, Numbered, operations_of}
-use Rattle.gt_explore_claims.specs.Exploring.{AnswerMeans, AnswersClaims, AreClaimsOf, AreOptionsNamed, AreSourceLines, ClaimsExplored}
+use Rattle.gt_explore_claims.specs.Deciding.{AreNumberingFailures, IsNumberingFailure, Numbered}
+use Rattle.gt_explore_claims.specs.Exploring.{AnswersClaims, AreClaimsOf, AreOptionsNamed, AreSourceLines, ClaimsExplored, IsDecision}
 use Rattle.gt_explore_claims.specs.Exploring.{IsNamedRequest, NamedExplored, NamesTwice}
 use Rattle.gt_explore_claims.specs.Stating.{IsStatedAs, IsUnstatedFault, Stated}
+use Rattle.gt_explore_claims.specs.Unlisted.{AnswerMeans, IsDecidedUnshown, ShowNone, formula_of_claim}
 use Rattle.gt_explore_claims.specs.declared.exploring.ClaimsOptions.{ClaimsOptions}
 
 -- the lines of what was read, in which names are looked up
@@ -40,9 +45,35 @@ source_lines all input source read is = λ utf8. ap lines_in (is (subst IsUtf8 (
 pub answers_mean : (c : RunContents) (f : Found) (claims : List Numbered) → AreTextsOf c f → All (AnswerMeans c f) claims
 answers_mean c f claims are = λ k d there.
     let claim = get_or claims k d in
-    judged_means (MayGive c) claim.stated.claim (formula_of (operations_of claim)) f.texts f.whole are.possible are.whole
+    judged_means (MayGive c) claim.stated.claim (formula_of_claim claim) f.texts f.whole are.possible are.whole
+
+-- also if no text shows one
+pub either_means : (c : RunContents) (f : Found) (claims : List Numbered) → AreTextsOf c f ⊎ ShowNone c claims f → All (AnswerMeans c f) claims
+either_means c f claims (inl are) = answers_mean c f claims are
+either_means c f claims (inr none) = none.means
 
 -- ---- one claim, or another request
+
+pub some_more : {X : Type 0} (o : Option X) (P Q : X → Type 0) → ((x : X) → P x → Q x) → IfSome o P → IfSome o Q
+some_more None P Q more some = tt
+some_more (Some x) P Q more some = more x some
+
+module _ (first named : ExploreOptions) (input : List ℕ) (old new : Option (List ℕ)) (are : AreOptionsNamed input first named) where
+  -- the request with numbers was answered
+  pub named_ok : (verdict : Verdict) → Explored named (ReadsAsRun input) old new (Ok verdict) → NamedExplored first input old new (Ok verdict)
+  named_ok verdict wrote = (named, are, inl wrote)
+
+  pub named_err : (fault : ExploreFault) → Explored named (ReadsAsRun input) old new (Err fault) → NamedExplored first input old new (Err (claims_faults.Explore fault))
+  named_err fault wrote = (named, are, inl wrote)
+
+  -- its claim was decided by texts of which none shows the verdict
+  pub unshown_ok : (c : RunContents) (claim : Claim) (expression text : List ℕ) (verdict : Verdict) → ReadsAsRun input (Ok c) → IsDecision claim expression named.request
+      → IsDecidedUnshown c named.format named.states claim expression text verdict → Appends old new text → NamedExplored first input old new (Ok verdict)
+  unshown_ok c claim expression text verdict reads is decided wrote = (named, are, inr (c, reads, text, (claim, expression, is, decided), wrote))
+
+  pub unshown_cut : (c : RunContents) (claim : Claim) (expression text : List ℕ) (verdict : Verdict) → ReadsAsRun input (Ok c) → IsDecision claim expression named.request
+      → IsDecidedUnshown c named.format named.states claim expression text verdict → AppendsBeginning old new text → NamedExplored first input old new (Err (claims_faults.Explore (Play play_faults.Write)))
+  unshown_cut c claim expression text verdict reads is decided wrote = (named, are, inr (c, reads, text, verdict, (claim, expression, is, decided), wrote))
 
 -- what is written if memory was wanting is written for each request
 abbrev with_numbers : List ℕ → ExploreRequest → ExploreRequest
@@ -70,7 +101,7 @@ some_named input asked = (
 )
 
 no_memory_named : (asked : ExploreOptions) (input : List ℕ) (old : Option (List ℕ)) → NamedExplored asked input old old (Err claims_memory)
-no_memory_named asked input old = let some = some_named input asked in (some.0, some.1, keeps_same old)
+no_memory_named asked input old = let some = some_named input asked in (some.0, some.1, inl (keeps_same old))
 
 -- the names of the expression have a fault
 pub named_fault : (asked : ExploreOptions) (claim : Claim) (e : Bor (List ℕ)) (input : List ℕ) (lines : List (List ℕ)) (old : Option (List ℕ)) (fault : ClaimsFault) → asked.request ≡ explore_requests.Decide claim e

@@ -1,5 +1,5 @@
 -- What is written of claims about a script, by the result.
-use Rattle.std.specs.Prelude.{◌≡◌, ◌++◌, ℕ, List, All, map, take, Option, Some, None, Result, Ok, Err}
+use Rattle.std.specs.Prelude.{◌≡◌, ◌⊎◌, ◌++◌, ℕ, List, All, map, take, Option, Some, None, Result, Ok, Err}
 use Rattle.std.specs.Io.KnownBytes.{Appends, Keeps}
 use Rattle.std.specs.Str.{IsUtf8}
 use Rattle.std.specs.Str.Lines.{lines as lines_in}
@@ -25,16 +25,15 @@ use Rattle.gt_explore_answers.specs.declared.asking.ExploreRequest.{ExploreReque
 use Rattle.gt_explore_answers.specs.declared.asking.ExploreRequest.TheVariants as explore_requests
 use Rattle.gt_explore_faults.specs.declared.claims.ClaimsFault.{ClaimsFault}
 use Rattle.gt_explore_faults.specs.declared.claims.ClaimsFault.TheVariants as claims_faults
+use Rattle.gt_explore_faults.specs.declared.fault.ExploreFault.{ExploreFault}
 use Rattle.gt_explore_faults.specs.declared.fault.ExploreFault.TheVariants.{Play, Texts}
-use Rattle.gt_explore_replay.specs.Orders.{MayGive}
-use Rattle.gt_explore_verdict.specs.Formulas.{formula_of}
-use Rattle.gt_explore_verdict.specs.Judging.{VerdictMeans}
 use Rattle.gt_explore_verdict.specs.declared.judging.Claim.{Claim}
 use Rattle.gt_explore_verdict.specs.declared.judging.Verdict.{Verdict}
 use Rattle.gt_explore_claims.specs.Deciding.{AreNumberingFailures, Numbered, claim_answer, claims_shown, first_fault}
 use Rattle.gt_explore_claims.specs.Deciding.{numbered_claims}
-use Rattle.gt_explore_claims.specs.Deciding.{operations_of, verdict_of_claims}
+use Rattle.gt_explore_claims.specs.Deciding.{verdict_of_claims}
 use Rattle.gt_explore_claims.specs.Stating.{IsStatedAs, Stated, first_unstated}
+use Rattle.gt_explore_claims.specs.Unlisted.{AnswerMeans, IsDecidedUnshown, ShowNone}
 use Rattle.gt_explore_claims.specs.declared.exploring.ClaimsOptions.{ClaimsOptions}
 
 -- the lines of a script, as far as it is read; names are looked up in them
@@ -76,14 +75,37 @@ NamesTwice input (explore_requests.Has given) both = ⊥
 NamesTwice input (explore_requests.Witness number) both = ⊥
 NamesTwice input explore_requests.Witnesses both = ⊥
 
--- what was written: what `explore` writes for the request with numbers in place of names
+-- the claim of a request about a script was decided by texts of which none shows the verdict
+abbrev pub IsMadeUnshown : RunContents → ExploreOptions → List ℕ → Verdict → Type 0
+IsMadeUnshown c asked text verdict =
+    (claim : Claim) × (expression : List ℕ) × IsDecision claim expression asked.request
+    × IsDecidedUnshown c asked.format asked.states claim expression text verdict
+
+-- what was written of such a claim: the whole output, or after a failed write a prefix of it
+abbrev pub ExploredUnshown : ExploreOptions → List ℕ → Option (List ℕ) → Option (List ℕ) → Result Verdict ExploreFault
+    → Type 0
+ExploredUnshown asked input old new (Ok verdict) =
+    (c : RunContents) × ReadsAsRun input (Ok c) × (text : List ℕ) × IsMadeUnshown c asked text verdict
+    × Appends old new text
+ExploredUnshown asked input old new (Err (Play play_faults.Write)) =
+    (c : RunContents) × ReadsAsRun input (Ok c) × (text : List ℕ) × (verdict : Verdict)
+    × IsMadeUnshown c asked text verdict × AppendsBeginning old new text
+ExploredUnshown asked input old new (Err fault) = ⊥
+
+-- the request with numbers in place of names was answered as `explore` does; or its claim was decided by texts of which
+-- none shows the verdict
+abbrev pub NumberedExplored : ExploreOptions → List ℕ → Option (List ℕ) → Option (List ℕ) → Result Verdict ExploreFault
+    → Type 0
+NumberedExplored asked input old new r =
+    Explored asked (ReadsAsRun input) old new r ⊎ ExploredUnshown asked input old new r
+
+-- what was written, by the result
 abbrev pub NamedExplored : ExploreOptions → List ℕ → Option (List ℕ) → Option (List ℕ) → Result Verdict ClaimsFault
     → Type 0
 NamedExplored asked input old new (Ok verdict) =
-    (named : ExploreOptions) × AreOptionsNamed input asked named
-    × Explored named (ReadsAsRun input) old new (Ok verdict)
+    (named : ExploreOptions) × AreOptionsNamed input asked named × NumberedExplored named input old new (Ok verdict)
 NamedExplored asked input old new (Err (claims_faults.Explore fault)) =
-    (named : ExploreOptions) × AreOptionsNamed input asked named × Explored named (ReadsAsRun input) old new (Err fault)
+    (named : ExploreOptions) × AreOptionsNamed input asked named × NumberedExplored named input old new (Err fault)
 NamedExplored asked input old new (Err (claims_faults.Repeated first second)) =
     NamesTwice input asked.request (first, second) × Keeps old new
 NamedExplored asked input old new (Err claims_faults.Astray) = Keeps old new
@@ -107,16 +129,12 @@ abbrev pub claims_output : ExploreFormat → ℕ → Found → List Numbered →
 claims_output format states f claims =
     (claims_shown format f claims ++ answers_ended format states f (verdict_on_all f claims), verdict_on_all f claims)
 
--- what the verdict on a claim means for the texts that the script may give
-abbrev pub AnswerMeans : RunContents → Found → Numbered → Type 0
-AnswerMeans c f claim =
-    VerdictMeans (MayGive c) claim.stated.claim (formula_of (operations_of claim)) (claim_answer f claim).verdict
-
--- the claims are answered by texts that the script may give, and each verdict means what it says
+-- the claims are answered by all texts that the script may give, or by texts of which none shows a verdict; each verdict
+-- means what it says
 pub record AreAnswers (c : RunContents) (asked : ClaimsOptions) (claims : List Numbered) (text : List ℕ)
     (verdict : Verdict) : Type 0 where
   pub found : Found
-  pub texts : AreTextsOf c found
+  pub texts : AreTextsOf c found ⊎ ShowNone c claims found
   pub clear : first_fault c 1 claims ≡ None
   pub means : All (AnswerMeans c found) claims
   pub output : (text, verdict) ≡ claims_output asked.format asked.states found claims

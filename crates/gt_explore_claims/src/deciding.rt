@@ -5,7 +5,9 @@ ghost use Rattle.std.specs.Option.{option_map};
 ghost use Rattle.std.specs.Str.Lines.{lines as lines_in};
 ghost use Rattle.gt_call_names.specs.Naming.{with_line_numbers};
 ghost use Rattle.gt_script.specs.RunContents.{run_contents};
+ghost use Rattle.gt_explore_answers.specs.Exploring.{AreConditions};
 ghost use Rattle.gt_explore_answers.specs.Outputs.{found_from};
+ghost use Rattle.gt_explore_verdict.specs.Formulas.{operation_asked};
 ghost use Rattle.gt_explore_claims.specs.Deciding.{AreNumberingFailures, IsNumberingFailure, claim_answer};
 ghost use Rattle.gt_explore_claims.specs.Deciding.{claim_judged, claims_shown};
 ghost use Rattle.gt_explore_claims.specs.Deciding.{fault_of_expression, first_fault, is_verdict, numbered_claim};
@@ -19,7 +21,9 @@ use gt_call_names::{NameFault, numbered};
 use gt_explore::TextsTest;
 use gt_explore_answers::{ExploreFormat, ExploreRequest, FoundTexts, conditions_asked, satisfied};
 use gt_explore_faults::{ClaimsFault, TextsFault};
-use gt_explore_verdict::{Claim, ConditionFault, ExpressionFault, Judgement, Verdict, judge};
+use gt_explore_verdict::{
+    Claim, ConditionFault, ExpressionFault, Judgement, Operation, Verdict, judge,
+};
 use gt_script::RunScript;
 use gt_text::text_of;
 use std::alloc::{AllocError, Global};
@@ -137,6 +141,29 @@ fn number_of(shown_by: Option<usize>) -> Result<Option<usize>, TextsFault>
     }
 }
 
+/// Reads the expression of a claim about a script.
+///
+/// # Errors
+/// `Astray` if the expression has a fault, and `Memory`.
+pub fn conditions_of<'n>(
+    alloc: Global,
+    script: &RunScript,
+    named: &'n NumberedClaim<'_>,
+) -> Result<Vec<Operation<'n>>, TextsFault>
+    ensures { IfOk result (λ conditions. AreConditions (run_contents script.now) named.entry.now.numbered.items
+        (map operation_asked conditions.items)) }
+{
+    let Ok(expression) = text_of(named.numbered.as_slice()) else {
+        return Err(TextsFault::Astray);
+    };
+    let claim = named.stated.claim;
+    match conditions_asked(alloc, script, ExploreRequest::Decide { claim, expression }) {
+        Ok(conditions) => Ok(conditions),
+        Err(ExpressionFault::Term { .. }) => Err(TextsFault::Astray),
+        Err(ExpressionFault::Memory) => Err(TextsFault::Memory),
+    }
+}
+
 // Judges a claim by the texts found for a script.
 fn judged(
     alloc: Global,
@@ -146,25 +173,13 @@ fn judged(
 ) -> Result<Judgement, TextsFault>
     ensures { IfOk result (λ j. j ≡ claim_judged (found_from found.now) (numbered_claim named.now)) }
 {
-    let Ok(expression) = text_of(named.numbered.as_slice()) else {
-        return Err(TextsFault::Astray);
-    };
-    let claim = named.stated.claim;
-    let conditions = match conditions_asked(
-        alloc,
-        script,
-        ExploreRequest::Decide { claim, expression },
-    ) {
-        Ok(conditions) => conditions,
-        Err(ExpressionFault::Term { .. }) => return Err(TextsFault::Astray),
-        Err(ExpressionFault::Memory) => return Err(TextsFault::Memory),
-    };
+    let conditions = conditions_of(alloc, script, named)?;
     let met = satisfied(alloc, conditions.as_slice(), found.texts.as_slice())?;
-    Ok(judge(claim, met.as_slice(), found.whole))
+    Ok(judge(named.stated.claim, met.as_slice(), found.whole))
 }
 
-// Answers a claim by the texts found for a script.
-fn claim_answer(
+/// Answers a claim by the texts found for a script.
+pub fn claim_answer(
     alloc: Global,
     script: &RunScript,
     found: &FoundTexts,

@@ -1,5 +1,5 @@
-//! Several claims about a script, decided by one search.
-ghost use Rattle.std.specs.Prelude.{◌≡◌, ◌++◌, ℕ, List, IfOk, OnOk, map, take};
+//! Several claims about a script, decided together.
+ghost use Rattle.std.specs.Prelude.{◌≡◌, ◌⊎◌, ◌++◌, ℕ, List, IfOk, OnOk, map, take};
 ghost use Rattle.std.specs.Str.Lines.{lines as lines_in};
 ghost use Rattle.gt_text.specs.declared.streams.TheConstants.{READ_LIMIT};
 ghost use Rattle.gt_script.specs.Contents.{contents_of};
@@ -12,12 +12,14 @@ ghost use Rattle.gt_explore_claims.specs.Deciding.{numbered_claim};
 ghost use Rattle.gt_explore_claims.specs.Stating.{IsStatedAs, stated};
 ghost use Rattle.gt_explore_claims.specs.Exploring.{AnswersClaims, AreClaimsOf, ClaimsExplored, MakesAnswers};
 ghost use Rattle.gt_explore_claims.specs.Exploring.{answers_ended, claims_output};
+ghost use Rattle.gt_explore_claims.specs.Unlisted.{ShowNone};
 
 use crate::deciding::{
     ClaimsTest, NumberedClaim, first_fault, numbered_claims, push_answers, verdict_of_claims,
 };
 use crate::naming::source_of;
 use crate::stated::{StatedClaim, claims_in};
+use crate::unlisted::unshown;
 use gt_explore::texts_enough;
 use gt_explore_answers::{
     ExploreFormat, ExploreOutput, FoundTexts, push_states_line, push_summary,
@@ -74,7 +76,29 @@ fn claims_output(
     Ok(ExploreOutput { text, verdict })
 }
 
-// Finds the texts of a script, and answers claims by them.
+// Finds texts of a script by which these claims are answered: some of which none shows a verdict, or all.
+fn texts_for<T: SearchWatch>(
+    alloc: Global,
+    states: usize,
+    script: &RunScript,
+    claims: &[NumberedClaim<'_>],
+    watch: &mut T,
+) -> Result<FoundTexts, TextsFault>
+    requires fits { CanConfigure (contents_of script.now.head) }
+    requires numbered { AreNumbered script.now.flags script.now.tasks }
+    ensures { IfOk result (λ found. AreTextsOf (run_contents script.now) (found_from found)
+        ⊎ ShowNone (run_contents script.now) (map numbered_claim claims.now) (found_from found)) }
+{
+    match unshown(alloc, script, claims, states, watch) {
+        Ok(Some(found)) => Ok(found),
+        Ok(None) | Err(_) => {
+            let test = ClaimsTest { script, claims };
+            texts_enough(alloc, script, states, &test, watch)
+        }
+    }
+}
+
+// Finds texts of a script, and answers claims by them.
 fn answered<T: SearchWatch>(
     alloc: Global,
     asked: &ClaimsOptions<'_>,
@@ -97,8 +121,7 @@ fn answered<T: SearchWatch>(
         }
         Err(fault) => return Err(ClaimsFault::Explore(ExploreFault::Texts(fault))),
     }
-    let test = ClaimsTest { script, claims };
-    let found = match texts_enough(alloc, script, asked.states, &test, watch) {
+    let found = match texts_for(alloc, asked.states, script, claims, watch) {
         Ok(found) => found,
         Err(fault) => return Err(ClaimsFault::Explore(ExploreFault::Texts(fault))),
     };
@@ -171,10 +194,11 @@ fn explore_stated<W: Write, T: SearchWatch>(
     }
 }
 
-/// Decides claims on the texts that a script may give. One search finds them, and ends after 1,000 or 32,000 states if
-/// the texts found until then decide each claim. Each claim has a line: the verdict, the claim, and the number of the
-/// first text that shows the verdict, if one does. In `Json` it is an object. The bytes of the script are a whole text,
-/// or the first 1,048,577 of a longer one.
+/// Decides claims on the texts that a script may give. One search finds a text of each kind. If one of them shows a
+/// verdict, or the search fails, another one finds all texts. Each ends after 1,000 or 32,000 states if the texts found
+/// until then are enough. Each claim has a line: the verdict, the claim, and the number of the first text that shows the
+/// verdict, if one does. In `Json` it is an object. The bytes of the script are a whole text, or the first 1,048,577 of a
+/// longer one.
 ///
 /// The verdict fails if that on one of the claims does, is undecided if that on another is, and holds otherwise.
 ///

@@ -7,7 +7,7 @@ use Rattle.gt_state_claims.specs.Reading.{IsReadFault, claim_read}
 use Rattle.gt_state_claims.specs.declared.fault.StateClaimFault.{StateClaimFault}
 use Rattle.gt_state_claims.specs.declared.fault.StateClaimFault.TheVariants as claim_faults
 use Rattle.gt_explore_moments.specs.Exploring.{IsClaimFault}
-use Rattle.gt_explore_moments.specs.Naming.{entries_named, foreign_domain}
+use Rattle.gt_moment_scripts.specs.Naming.{entries_named, foreign_domain}
 
 -- the text was not read
 pub unread_claim : (domains : List DomainConfig) (text : List ℕ) (fault : StateClaimFault) → IsReadFault text fault → IsClaimFault domains text fault

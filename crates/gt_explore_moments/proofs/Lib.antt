@@ -1,4 +1,3 @@
 pub mod Asked
 pub mod Explored
-pub mod Pieces
 pub mod Written

@@ -17,9 +17,9 @@ use Rattle.gt_state_claims.specs.Claims.{ClaimAsked}
 use Rattle.gt_state_claims.specs.Reading.{IsReadFault, claim_read}
 use Rattle.gt_state_claims.specs.declared.fault.StateClaimFault.{StateClaimFault}
 use Rattle.gt_state_claims.specs.declared.fault.StateClaimFault.TheVariants as claim_faults
-use Rattle.gt_explore_moments.specs.Naming.{entries_named, foreign_domain}
+use Rattle.gt_moment_scripts.specs.Naming.{entries_named, foreign_domain}
 use Rattle.gt_explore_moments.specs.Outputs.{holds_lines, moment_comment, undecided_lines}
-use Rattle.gt_explore_moments.specs.Showing.{ShowsAfterComment}
+use Rattle.gt_moment_scripts.specs.Showing.{ShowsAfterComment}
 use Rattle.gt_explore_moments.specs.declared.asking.MomentFault.{MomentFault}
 use Rattle.gt_explore_moments.specs.declared.asking.MomentFault.TheVariants.{Claim, Play, Texts}
 use Rattle.gt_explore_moments.specs.declared.asking.MomentOptions.{MomentOptions}

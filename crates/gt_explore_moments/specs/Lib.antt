@@ -1,4 +1,2 @@
 pub mod Exploring
-pub mod Naming
 pub mod Outputs
-pub mod Showing

@@ -9,16 +9,15 @@ ghost use Rattle.gt_state_claims.specs.Reading.{claim_read};
 ghost use Rattle.gt_text.specs.declared.streams.TheConstants.{READ_LIMIT};
 ghost use Rattle.gt_explore_moments.specs.Exploring.{IsClaimFault, IsMomentAnswer, IsMomentOutput, MakesAnswer};
 ghost use Rattle.gt_explore_moments.specs.Exploring.{MomentExplored, MomentWritten};
-ghost use Rattle.gt_explore_moments.specs.Naming.{entries_named, foreign_domain};
+ghost use Rattle.gt_moment_scripts.specs.Naming.{entries_named, foreign_domain};
 
 use crate::asking::{MomentFault, MomentOptions};
-use crate::naming::{entries_named, foreign_domain};
 use crate::outputs::{holds_lines, moment_comment, undecided_lines};
-use crate::playing::moment_script;
 use gt_explore_faults::TextsFault;
 use gt_explore_search::{SearchWatch, Turn};
 use gt_explore_states::{StateFinding, search_state};
 use gt_explore_verdict::Verdict;
+use gt_moment_scripts::{entries_named, foreign_domain, moment_script};
 use gt_script::{RunScript, parse_run};
 use gt_script_runs::PlayFault;
 use gt_state_claims::{StateClaim, StateClaimFault};
@@ -58,6 +57,13 @@ fn claim_about(
     }
 }
 
+// The turns that lead to a moment, and the number of states that the search met.
+#[derive(Drop)]
+struct FoundMoment {
+    turns: Vec<Turn>,
+    states: usize,
+}
+
 // Returns the answer that these turns lead to a moment at which the claim holds.
 fn moment_answer(
     alloc: Global,
@@ -65,14 +71,14 @@ fn moment_answer(
     source: &[u8],
     script: &RunScript,
     claim: &StateClaim,
-    turns: &[Turn],
-    states: usize,
+    found: &FoundMoment,
 ) -> Result<Vec<u8>, TextsFault>
     requires { CanConfigure (contents_of script.now.head) }
     ensures { IfOk result (λ text. IsMomentOutput (contents_of script.now.head) (claim_asked claim.now) words.now
         text.items) }
 {
-    let comment = moment_comment(alloc, words, states)?;
+    let comment = moment_comment(alloc, words, found.states)?;
+    let turns = found.turns.as_slice();
     moment_script(alloc, source, script, turns, claim, comment.as_slice())
 }
 
@@ -108,8 +114,8 @@ fn answered<T: SearchWatch>(
             })
         }
         StateFinding::Found(turns) => {
-            let turns = turns.as_slice();
-            let shown = moment_answer(alloc, asked.claim, source, script, claim, turns, states)?;
+            let found = FoundMoment { turns, states };
+            let shown = moment_answer(alloc, asked.claim, source, script, claim, &found)?;
             Ok(MomentAnswer {
                 text: shown,
                 verdict: Verdict::Fails,

@@ -8,19 +8,14 @@
 //! specs/Exploring.antt). The script was played before, and the lines of its `show` are those of entries of which the
 //! claim holds (`ShowsMoment`). Both speak of orders and of what `play` prints, and not of the search.
 //!
-//! It uses these, `gt_explore_search` (turns, and the watch over a search), `gt_explore_replay` and `gt_explore_witness`
-//! (scripts for `play`), `gt_host` (`play`), `gt_state_claims` (claims), `gt_explore_faults`, `gt_explore_verdict`,
-//! `gt_core`, `gt_model`, `gt_script`, `gt_script_runs`, `gt_text`, `gt_types` and `hex`. Its definitions also name
-//! `gt_policy`.
+//! It uses these, `gt_moment_scripts` (scripts for `play` that show a moment), `gt_explore_search` (the watch over a
+//! search), `gt_state_claims` (claims), `gt_explore_faults`, `gt_explore_verdict`, `gt_script`, `gt_script_runs`,
+//! `gt_text` and `gt_types`. Its definitions also name `gt_policy`.
 #![tactic(auto)]
 
 mod asking;
 mod exploring;
-mod naming;
 mod outputs;
-mod playing;
-mod rows;
-mod showing;
 
 pub use asking::{MomentFault, MomentOptions};
 pub use exploring::explore_moment;

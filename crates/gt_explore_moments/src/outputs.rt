@@ -1,10 +1,8 @@
 //! The lines of an answer.
-ghost use Rattle.std.specs.Prelude.{◌≡◌, ◌++◌, IfOk, OnOk, codes, decimal};
+ghost use Rattle.std.specs.Prelude.{◌≡◌, IfOk};
 ghost use Rattle.gt_explore_moments.specs.Outputs.{holds_lines, moment_comment, undecided_lines};
-ghost use Rattle.gt_explore_moments.specs.Showing.{no_script_line};
 
 use gt_text::{push_number, push_text};
-use gt_types::DomId;
 use std::alloc::{AllocError, Global};
 
 /// Returns the answer `holds`: no order has such a moment.
@@ -40,14 +38,4 @@ pub fn moment_comment(alloc: Global, claim: &str, states: usize) -> Result<Vec<u
     push_number(&mut text, states)?;
     push_text(&mut text, "\n")?;
     Ok(text)
-}
-
-/// Appends the line in place of a script for `play` that was not found: this domain leaves with a mapping that it may
-/// not unmap.
-pub fn push_no_script(out: &mut Vec<u8>, dom: DomId) -> Result<(), AllocError>
-    ensures { OnOk result (out.new.items ≡ out.old.items ++ no_script_line dom.0) }
-{
-    push_text(out, "# no script for play gives it: domain ")?;
-    push_number(out, dom.0)?;
-    push_text(out, " leaves with a mapping that it may not unmap\n")
 }

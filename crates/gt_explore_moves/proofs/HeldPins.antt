@@ -59,7 +59,7 @@ use Rattle.gt_core.proofs.AgreementKept.{open_call-other, open_call-own}
 use Rattle.gt_model.proofs.Observers.{exchanged-entry, other-pins, stepped, unpinned-live}
 use Rattle.gt_core.proofs.Steps.Pin.{leg-grows, map-legs}
 use Rattle.gt_core.proofs.Steps.Unpin.{leg-left, loses-leg, mapping-legs}
-use Rattle.gt_explore_moves.proofs.Swapping.{Releases}
+use Rattle.gt_commuting.proofs.Swapping.{Releases}
 use Rattle.gt_explore_moves.specs.Granting.{AllOfScript, IsGranted, IsItemOfScript, IsOfScript}
 use Rattle.gt_explore_moves.specs.Touches.{frame_touch}
 use Rattle.gt_explore_moves.specs.declared.granted.GrantedEntry.{GrantedEntry}
@@ -69,8 +69,8 @@ use Rattle.gt_explore_state.specs.Likeness.{IsLikeReached}
 use Rattle.gt_explore_state.proofs.GoingAlike.{like-goes-on}
 use Rattle.gt_core.specs.Alike.{IsRun}
 use Rattle.gt_explore_moves.specs.declared.touches.MappingUse.{MappingUse}
-use Rattle.gt_explore_moves.proofs.PathSteps.{TakesOf, TookOf, after_action, after_step, held-more, held_along}
-use Rattle.gt_explore_moves.proofs.PathSteps.{took-any, took-more}
+use Rattle.gt_commuting.proofs.PathSteps.{TakesOf, TookOf, after_action, after_step, held-more, held_along}
+use Rattle.gt_commuting.proofs.PathSteps.{took-any, took-more}
 use Rattle.gt_explore_moves.proofs.Touching.{BeyondTouches, EndFacts, EndTouches, IsActionOf, IsPinning, RequestTouches}
 use Rattle.gt_explore_moves.proofs.Touching.{StepFacts}
 use Rattle.gt_explore_moves.proofs.Touching.{each-step, path-opened, unmaps-release}

@@ -12,7 +12,7 @@ use Rattle.gt_explore_moves.specs.Copies.{SameActors, SameWorld}
 use Rattle.gt_explore_moves.specs.Parts.{PartLists, SamePart, lists_in, no_parts, parts_of, with_part, with_parts}
 use Rattle.gt_explore_moves.specs.declared.actor.Actor.{Actor}
 use Rattle.gt_explore_moves.specs.declared.parts.StatePart.{StatePart}
-use Rattle.gt_explore_moves.specs.declared.parts.StatePart.TheVariants.{Domain, Flag, Page, Table}
+use Rattle.gt_explore_moves.specs.declared.parts.StatePart.TheVariants.{Domain, Flags, Page, Table}
 use Rattle.gt_explore_moves.specs.declared.scene.SearchState.{SearchState}
 use Rattle.gt_explore_moves.proofs.Copying.{actors-more}
 
@@ -26,10 +26,6 @@ with-both l (x ∷ xs) ys = with-both (with_part l x) xs ys
 pub with-more : (l old new : PartLists) (xs ys : List StatePart) (p : StatePart) → old ≡ with_parts l xs → new ≡ with_part old p → ys ≡ xs ++ p ∷ [] → new ≡ with_parts l ys
 with-more l old new xs ys p was is more = is ∙ ap (λ (m : PartLists). with_part m p) was ∙ sym (with-both l xs (p ∷ [])) ∙ ap (with_parts l) (sym more)
 
-with-flags : (l : PartLists) (xs : List Bool) → with_parts l (map Flag xs) ≡ record l { flags = l.flags ++ xs }
-with-flags l [] = ap (λ (f : List Bool). record l { flags = f }) (sym (append-nil l.flags))
-with-flags l (x ∷ xs) = with-flags (with_part l (Flag x)) xs ∙ ap (λ (f : List Bool). record l { flags = f }) (append_assoc l.flags (x ∷ []) xs)
-
 with-domains : (l : PartLists) (xs : List Actor) → with_parts l (map Domain xs) ≡ record l { actors = l.actors ++ xs }
 with-domains l [] = ap (λ (f : List Actor). record l { actors = f }) (sym (append-nil l.actors))
 with-domains l (x ∷ xs) = with-domains (with_part l (Domain x)) xs ∙ ap (λ (f : List Actor). record l { actors = f }) (append_assoc l.actors (x ∷ []) xs)
@@ -42,30 +38,12 @@ with-pages : (l : PartLists) (xs : List SparsePage) → with_parts l (map Page x
 with-pages l [] = ap (λ (f : List SparsePage). record l { pages = f }) (sym (append-nil l.pages))
 with-pages l (x ∷ xs) = with-pages (with_part l (Page x)) xs ∙ ap (λ (f : List SparsePage). record l { pages = f }) (append_assoc l.pages (x ∷ []) xs)
 
--- the parts of a state that was split
-split-whole : (flags : List Bool) (actors : List Actor) (tables : List SparseTable) (pages : List SparsePage) (none first second third all : List StatePart) → none ≡ [] → first ≡ none ++ map Flag flags
-    → second ≡ first ++ map Domain actors → third ≡ second ++ map Table tables → all ≡ third ++ map Page pages → record { flags = flags; actors = actors; tables = tables; pages = pages } ≡ with_parts no_parts all
-split-whole flags actors tables pages none first second third all empty one two three four = sym d
-  where
-    a : with_parts no_parts first ≡ record no_parts { flags = flags }
-    a = ap (with_parts no_parts) (one ∙ ap (λ (l : List StatePart). l ++ map Flag flags) empty) ∙ with-flags no_parts flags
-
-    b : with_parts no_parts second ≡ record no_parts { flags = flags; actors = actors }
-    b = ap (with_parts no_parts) two ∙ with-both no_parts first (map Domain actors) ∙ ap (λ (l : PartLists). with_parts l (map Domain actors)) a ∙ with-domains (record no_parts { flags = flags }) actors
-
-    c : with_parts no_parts third ≡ record { flags = flags; actors = actors; tables = tables; pages = [] }
-    c = ap (with_parts no_parts) three ∙ with-both no_parts second (map Table tables) ∙ ap (λ (l : PartLists). with_parts l (map Table tables)) b ∙ with-tables (record no_parts { flags = flags; actors = actors }) tables
-
-    d : with_parts no_parts all ≡ record { flags = flags; actors = actors; tables = tables; pages = pages }
-    d = ap (with_parts no_parts) four ∙ with-both no_parts third (map Page pages) ∙ ap (λ (l : PartLists). with_parts l (map Page pages)) c ∙ with-pages (record { flags = flags; actors = actors; tables = tables; pages = [] }) pages
-
 -- the parts of a state are its own
 whole-parts : (w : SearchState) → lists_in w ≡ with_parts no_parts (parts_of w)
-whole-parts w = split-whole w.told.items w.actors.items w.ground.tables.items w.ground.pages.items [] flags (flags ++ actors) ((flags ++ actors) ++ tables) (parts_of w) refl refl refl refl
-    (sym (append_assoc (flags ++ actors) tables pages ∙ append_assoc flags actors (tables ++ pages)))
+whole-parts w = sym d
   where
-    flags : List StatePart
-    flags = map Flag w.told.items
+    flags : PartLists
+    flags = record no_parts { flags = w.told.items }
 
     actors : List StatePart
     actors = map Domain w.actors.items
@@ -75,6 +53,17 @@ whole-parts w = split-whole w.told.items w.actors.items w.ground.tables.items w.
 
     pages : List StatePart
     pages = map Page w.ground.pages.items
+
+    b : with_parts flags actors ≡ record flags { actors = w.actors.items }
+    b = with-domains flags w.actors.items
+
+    c : with_parts (record flags { actors = w.actors.items }) tables ≡ record flags { actors = w.actors.items; tables = w.ground.tables.items }
+    c = with-tables (record flags { actors = w.actors.items }) w.ground.tables.items
+
+    d : with_parts flags (actors ++ (tables ++ pages)) ≡ lists_in w
+    d = with-both flags actors (tables ++ pages) ∙ ap (λ (l : PartLists). with_parts l (tables ++ pages)) b
+        ∙ with-both (record flags { actors = w.actors.items }) tables pages ∙ ap (λ (l : PartLists). with_parts l pages) c
+        ∙ with-pages (record flags { actors = w.actors.items; tables = w.ground.tables.items }) w.ground.pages.items
 
 -- an index past the end
 pub past-none : {X : Type 0} (xs : List X) (at : ℕ) → slice_get xs at ≡ None → length xs ≤ at
@@ -91,8 +80,8 @@ record SameLists (l m : PartLists) : Type 0 where
   pub pages : SamePages l.pages m.pages
 
 same-with : (p q : StatePart) (l m : PartLists) → SamePart p q → SameLists l m → SameLists (with_part l p) (with_part m q)
-same-with (Flag b) (Flag c) l m is same = record {
-  flags = ap (λ (x : Bool). m.flags ++ x ∷ []) is ∙ ap (λ (f : List Bool). f ++ b ∷ []) same.flags;
+same-with (Flags told) (Flags t) l m is same = record {
+  flags = is;
   actors = same.actors;
   tables = same.tables;
   pages = same.pages;

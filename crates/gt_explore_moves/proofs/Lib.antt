@@ -24,7 +24,6 @@ pub mod NextSerial
 pub mod OneLess
 pub mod OpenAlong
 pub mod OthersStay
-pub mod PathSteps
 pub mod Placing
 pub mod Reaching
 pub mod Renaming
@@ -34,7 +33,6 @@ pub mod ShownBySame
 pub mod SpaceMoves
 pub mod StateComesOn
 pub mod StepOrEnd
-pub mod Swapping
 pub mod Touching
 pub mod Undisturbed
 pub mod Unlabelled

@@ -20,7 +20,7 @@ use Rattle.gt_model.specs.declared.handle.Handle.{Handle}
 use Rattle.gt_model.specs.Asking.{asked}
 use Rattle.gt_model.specs.Holding.{frame_by, held_by, owner_by}
 use Rattle.gt_model.specs.Path.{accesses, after_beginning, asks, copies, dest_pair, end_leg, ended, give_back}
-use Rattle.gt_model.specs.Path.{gref_of, map_leg, path, place_of, refused_holding, second_leg, source_pair, steps_of}
+use Rattle.gt_model.specs.Path.{gref_of, map_leg, path, end_spot, refused_holding, second_leg, source_pair, steps_of}
 use Rattle.gt_model.specs.Path.{to_dest}
 use Rattle.gt_model.specs.Rules.{CallerKnowledge, begun}
 use Rattle.gt_model.specs.declared.action.Action.{Action}
@@ -50,14 +50,14 @@ use Rattle.gt_model.specs.declared.request.PinHolder.TheVariants as holders
 use Rattle.gt_model.specs.declared.request.Request.{Request}
 use Rattle.gt_model.specs.Entries.{frame_of, with_ro}
 use Rattle.gt_model.specs.History.{History, Setting, mapping_of, mappings_at, patches_at}
-use Rattle.gt_explore_moves.specs.Swapping.{AreApart, ReleasesNoPinOn, SameLook, TouchApart, looks_header}
-use Rattle.gt_explore_moves.specs.Swapping.{touches_entry}
-use Rattle.gt_explore_moves.specs.Swapping.{patches_of, reads_frames, stores_header, writes_frames}
+use Rattle.gt_commuting.specs.Swapping.{AreApart, ReleasesNoPinOn, SameLook, TouchApart, looks_header}
+use Rattle.gt_commuting.specs.Swapping.{touches_entry}
+use Rattle.gt_commuting.specs.Swapping.{patches_of, reads_frames, stores_header, writes_frames}
 use Rattle.gt_model.specs.declared.trace.Answer.{Answer}
 use Rattle.gt_model.specs.declared.trace.Item.{Item}
 use Rattle.gt_model.specs.declared.trace.ItemEvent.TheVariants.{Stepped}
 use Rattle.gt_core.proofs.Steps.Unpin.{loses-mapping}
-use Rattle.gt_explore_moves.proofs.Swapping.{Releases, keeps-elsewhere, steps-apart-in}
+use Rattle.gt_commuting.proofs.Swapping.{Releases, keeps-elsewhere, steps-apart-in}
 use Rattle.gt_script_runs.specs.Runs.{Named, MakesRequest, call_bytes, request_of}
 use Rattle.gt_script_lines.specs.declared.calls.ScriptCall.{ScriptCall}
 use Rattle.gt_script_lines.specs.declared.calls.ScriptCall.TheVariants as script_calls
@@ -77,9 +77,9 @@ use Rattle.gt_explore_moves.specs.declared.touches.NextMove.TheVariants as next_
 use Rattle.gt_explore_moves.specs.declared.touches.Touch.{Touch}
 use Rattle.gt_explore_moves.specs.declared.touches.Touch.TheVariants.{LooksHeader, Raises, Reads, StoresHeader, Writes}
 use Rattle.gt_explore_moves.specs.declared.touches.Touch.TheVariants as touches
-use Rattle.gt_explore_moves.proofs.PathSteps.{Each, GivesWell, IsNoVia, IsPinOf, LegIs, each-ended, each-given, each-grant}
-use Rattle.gt_explore_moves.proofs.PathSteps.{each-leg, each-looks, each-makes, each-mapped, each-once, each-reached}
-use Rattle.gt_explore_moves.proofs.PathSteps.{each-turns}
+use Rattle.gt_commuting.proofs.PathSteps.{Each, GivesWell, IsNoVia, IsPinOf, LegIs, each-ended, each-given, each-grant}
+use Rattle.gt_commuting.proofs.PathSteps.{each-leg, each-looks, each-makes, each-mapped, each-once, each-reached}
+use Rattle.gt_commuting.proofs.PathSteps.{each-turns}
 
 -- touches
 
@@ -278,7 +278,7 @@ module _ (A : Touch → Type 0) (grants : List GrantedEntry) (uses : MappingUse)
         → A (Writes (owner_by d dest) (frame_by c.dest.ptr dest))
         → Each L (One (Copy c)) (held_by dest ++ held_by source) (accesses d c source dest)
     each-access source dest on reads writes = each-makes L (One (Copy c)) (held_by dest ++ held_by source)
-        (call_steps.Copy (place_of d c.source source) (place_of d c.dest dest) c.len)
+        (call_steps.Copy (end_spot d c.source source) (end_spot d c.dest dest) c.len)
         (give_back (held_by dest ++ held_by source) Granted) ((reads, writes), tt, tt)
         (each-given L (One (Copy c)) (held_by dest ++ held_by source) Granted
         (gives-well (held_by dest ++ held_by source) on Granted))

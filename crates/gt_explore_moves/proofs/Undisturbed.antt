@@ -22,7 +22,7 @@ use Rattle.gt_model.specs.declared.request.Request.TheVariants as requests
 use Rattle.gt_model.specs.History.{History, Setting, Underway, known_at, maps_answered_at, mappings_at, open_call}
 use Rattle.gt_model.specs.History.{values}
 use Rattle.gt_model.specs.Legal.{IsItemOf, IsRight, MayDo, StepsRightIn, actor_of, grown}
-use Rattle.gt_explore_moves.specs.Swapping.{AreApart, SameSeen}
+use Rattle.gt_commuting.specs.Swapping.{AreApart, SameSeen}
 use Rattle.gt_model.specs.declared.trace.Element.{Element}
 use Rattle.gt_model.specs.declared.trace.Element.TheVariants.{Busy, Idle, NoDomain}
 use Rattle.gt_model.specs.declared.trace.Element.TheVariants as elements
@@ -33,7 +33,7 @@ use Rattle.gt_model.specs.declared.trace.ItemEvent.{ItemEvent}
 use Rattle.gt_model.specs.declared.trace.ItemEvent.TheVariants.{Began, Stepped}
 use Rattle.gt_core.proofs.AgreementKept.{open_call-other}
 use Rattle.gt_model.proofs.Observers.{other-known}
-use Rattle.gt_explore_moves.proofs.Swapping.{Releases, began-apart, events-first, grown-same, may-same}
+use Rattle.gt_commuting.proofs.Swapping.{Releases, began-apart, events-first, grown-same, may-same}
 use Rattle.gt_script_runs.specs.Playing.{setting_of_script}
 use Rattle.gt_script_runs.specs.Runs.{answer_in}
 use Rattle.gt_explore_replay.specs.Abreast.{CanComeNext, history_in}

@@ -47,7 +47,7 @@ use Rattle.gt_core.specs.Alike.{AsksKnown, HappensKnown, IsRun}
 use Rattle.gt_explore_state.specs.Likeness.{IsLikeReached}
 use Rattle.gt_explore_replay.proofs.Alike.{asks_answered, held_grown, held_here, names_grown}
 use Rattle.gt_types.specs.Names.{domain_of}
-use Rattle.gt_explore_moves.proofs.Swapping.{Releases}
+use Rattle.gt_commuting.proofs.Swapping.{Releases}
 use Rattle.gt_explore_replay.specs.Abreast.{CanComeNext, history_in}
 use Rattle.gt_explore_replay.specs.Courses.{ActionLeads, Course, CourseLeads, OpenLeads, Opened, RestLeads}
 use Rattle.gt_explore_replay.specs.Courses.{back_after, calling, course_after, giving, resting}
@@ -70,7 +70,7 @@ use Rattle.gt_explore_moves.specs.declared.granted.GrantedEntry.{GrantedEntry}
 use Rattle.gt_explore_moves.proofs.GrantingTasks.{said-of-script}
 use Rattle.gt_explore_moves.proofs.HeldPins.{IsPlain, IsSound, copy-took, is-sound, pinned-valid, releases-own}
 use Rattle.gt_explore_moves.proofs.HeldPins.{valid-granted}
-use Rattle.gt_explore_moves.proofs.PathSteps.{held_along, took-any}
+use Rattle.gt_commuting.proofs.PathSteps.{held_along, took-any}
 use Rattle.gt_explore_moves.proofs.Touching.{FramesTouch, IsListedLine, PinTouches, PinsBytes, ActionTouches, RequestTouches}
 use Rattle.gt_explore_moves.proofs.Touching.{StepFacts, StepTouches, TasksTouch, each-step, path-opened, said-touches}
 

@@ -12,6 +12,5 @@ pub mod Renaming
 pub mod Scenes
 pub mod Spaces
 pub mod Starting
-pub mod Swapping
 pub mod Ticking
 pub mod Touches

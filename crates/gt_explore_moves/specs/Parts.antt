@@ -11,7 +11,7 @@ use Rattle.gt_explore_moves.specs.declared.actor.Actor.{Actor}
 use Rattle.gt_explore_moves.specs.declared.parts.PartInState.{PartInState}
 use Rattle.gt_explore_moves.specs.declared.parts.PartInState.TheVariants as parts_in_state
 use Rattle.gt_explore_moves.specs.declared.parts.StatePart.{StatePart}
-use Rattle.gt_explore_moves.specs.declared.parts.StatePart.TheVariants.{Domain, Flag, Page, Table}
+use Rattle.gt_explore_moves.specs.declared.parts.StatePart.TheVariants.{Domain, Flags, Page, Table}
 use Rattle.gt_explore_moves.specs.declared.scene.SearchState.{SearchState}
 
 -- the flags, domains, tables and pages of a state
@@ -33,9 +33,9 @@ lists_in w = record {
 abbrev pub no_parts : PartLists
 no_parts = record { flags = []; actors = []; tables = []; pages = [] }
 
--- with one part more, at the end of those of its kind
+-- with one part more: the flags, or a part at the end of those of its kind
 abbrev pub with_part : PartLists → StatePart → PartLists
-with_part l (Flag b) = record l { flags = l.flags ++ b ∷ [] }
+with_part l (Flags told) = record l { flags = told.items }
 with_part l (Domain a) = record l { actors = l.actors ++ a ∷ [] }
 with_part l (Table t) = record l { tables = l.tables ++ t ∷ [] }
 with_part l (Page p) = record l { pages = l.pages ++ p ∷ [] }
@@ -47,7 +47,7 @@ with_parts l (p ∷ ps) = with_parts (with_part l p) ps
 
 -- the other part is of the same kind, and has the same content
 abbrev pub SamePart : StatePart → StatePart → Type 0
-SamePart (Flag b) (Flag c) = c ≡ b
+SamePart (Flags told) (Flags t) = t.items ≡ told.items
 SamePart (Domain a) (Domain b) = SameActor a b
 SamePart (Table t) (Table u) = SameTable t u
 SamePart (Page p) (Page q) = SamePage p q
@@ -77,22 +77,22 @@ all_but_flags w = map Domain w.actors.items ++ tables_and_pages w
 
 -- the parts of a state: its flags, its domains, their tables and the pages
 abbrev pub parts_of : SearchState → List StatePart
-parts_of w = map Flag w.told.items ++ all_but_flags w
+parts_of w = Flags w.told ∷ all_but_flags w
 
 -- the part that is borrowed from a state
 abbrev pub part_shown : PartInState → StatePart
-part_shown (parts_in_state.Flag b) = Flag b
+part_shown (parts_in_state.Flags told) = Flags told.now
 part_shown (parts_in_state.Domain a) = Domain a.now
 part_shown (parts_in_state.Table t) = Table t.now
 part_shown (parts_in_state.Page p) = Page p.now
 
 -- `SamePart` is transitive
 pub same_part_on : (p q r : StatePart) → SamePart p q → SamePart q r → SamePart p r
-same_part_on (Flag a) (Flag b) (Flag c) f g = g ∙ f
+same_part_on (Flags a) (Flags b) (Flags c) f g = g ∙ f
 same_part_on (Domain a) (Domain b) (Domain c) f g = same_actor_on a b c f g
 same_part_on (Table a) (Table b) (Table c) f g = same_table_on a b c f g
 same_part_on (Page a) (Page b) (Page c) f g = same_page_on a b c f g
-same_part_on (Flag a) (Flag b) r f g = absurd g
+same_part_on (Flags a) (Flags b) r f g = absurd g
 same_part_on (Domain a) (Domain b) r f g = absurd g
 same_part_on (Table a) (Table b) r f g = absurd g
 same_part_on (Page a) (Page b) r f g = absurd g
@@ -100,7 +100,7 @@ same_part_on p q r f g = absurd f
 
 -- `SamePart` is symmetric
 pub same_part_back : (p q : StatePart) → SamePart p q → SamePart q p
-same_part_back (Flag a) (Flag b) f = sym f
+same_part_back (Flags a) (Flags b) f = sym f
 same_part_back (Domain a) (Domain b) f =
     record { next = sym f.next; pins = sym f.pins; labels = sym f.labels; open_call = sym f.open_call }
 same_part_back (Table a) (Table b) f = record { header = sym f.header; own = sym f.own; counts = sym f.counts }

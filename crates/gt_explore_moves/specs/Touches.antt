@@ -15,7 +15,7 @@ use Rattle.gt_model.specs.declared.action.Step.TheVariants.{Unpin}
 use Rattle.gt_model.specs.declared.action.Step.TheVariants as call_steps
 use Rattle.gt_model.specs.declared.held.HeldPin.{HeldPin}
 use Rattle.gt_model.specs.Path.{gref_of}
-use Rattle.gt_explore_moves.specs.Swapping.{touches_entry, looks_header, stores_header}
+use Rattle.gt_commuting.specs.Swapping.{touches_entry, looks_header, stores_header}
 use Rattle.gt_model.specs.Entries.{frame_of}
 use Rattle.gt_model.specs.declared.entry.Entry.{Entry}
 use Rattle.gt_model.specs.declared.entry.Entry.TheVariants.{Via}

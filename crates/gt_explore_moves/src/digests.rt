@@ -85,6 +85,17 @@ fn mix_actor(digest: &mut Digest, actor: &Actor) {
     mix_open(digest, actor.open.as_ref())
 }
 
+// Mixes flags, 64 at a time.
+fn mix_flags(digest: &mut Digest, told: &[bool]) {
+    for some in told.chunks(64) {
+        let mut word = 0;
+        for is_raised in some {
+            word = word << 1 | u64::from(*is_raised);
+        }
+        digest.mix(word);
+    }
+}
+
 fn mix_page(digest: &mut Digest, page: &SparsePage) {
     digest.mix_all(&[u64::from(page.owner.0), page.frame]);
     mix_bytes(digest, page.bytes.as_slice());
@@ -95,7 +106,7 @@ impl<'s, 'a> SearchContext<'s, 'a> {
     pub fn digest(&self, part: PartInState<'_, 'a>) -> u64 {
         let mut digest = Digest::new();
         match part {
-            PartInState::Flag(is_raised) => digest.mix(u64::from(is_raised)),
+            PartInState::Flags(told) => mix_flags(&mut digest, told.as_slice()),
             PartInState::Domain(actor) => mix_actor(&mut digest, actor),
             PartInState::Table(table) => {
                 mix_table(&mut digest, self.roster.config().first_gen, table);

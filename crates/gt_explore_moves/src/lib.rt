@@ -13,15 +13,14 @@
 //!
 //! It uses `gt_explore_search` (the search), `gt_calls` (the steps of calls), `gt_explore_state` (words and bytes, and
 //! equality of calls), `gt_script_runs` (what lines ask and print), `gt_script` and `gt_script_lines` (scripts),
-//! `gt_core` (answers), `gt_entry`, `gt_roster` and `gt_types`. Its definitions also name `gt_explore_replay` (orders
-//! and turns) and `gt_handles`, and its proofs `hex`.
+//! `gt_core` (answers), `gt_entry`, `gt_roster` and `gt_types`. Its definitions also name `gt_commuting` (items that
+//! change places), `gt_explore_replay` (orders and turns) and `gt_handles`, and its proofs `hex`.
 #![tactic(auto)]
 
 mod actor;
 mod calls;
 mod digests;
 mod granted;
-mod laws;
 mod moves;
 mod names;
 mod partial;
@@ -34,10 +33,6 @@ mod space;
 mod touches;
 
 pub use gt_explore_search::{FoundText, PartialResult, SearchFault, SearchResult};
-pub use laws::{
-    every_beginning_is_apart, every_look_alike_goes_on, items_that_are_apart_change_places,
-    steps_that_touch_apart_are_apart,
-};
 pub use partial::search_within;
 pub use parts::StatePart;
 pub use scene::{SearchContext, SearchState};

@@ -190,7 +190,7 @@ impl<'s, 'a> SearchContext<'s, 'a> {
     }
 
     // Makes the move that begins the call of a task.
-    fn begin(
+    fn begin_call(
         &self,
         world: &mut SearchState<'a>,
         at: usize,
@@ -394,7 +394,7 @@ impl<'s, 'a> SearchContext<'s, 'a> {
     }
 
     // Continues or ends the open call of a domain, after its step saw this.
-    fn settle(
+    fn settle_call(
         &self,
         world: &mut SearchState<'a>,
         at: usize,
@@ -438,7 +438,7 @@ impl<'s, 'a> SearchContext<'s, 'a> {
             IfOk result (TicksAsRun s (i ∷ h) (tasks_at self.now at) k j world.old world.new at) }
     {
         let seen = self.make(&mut world.ground, at, open)?;
-        self.settle(world, at, open, seen)
+        self.settle_call(world, at, open, seen)
     }
 
     /// Makes a turn: the next move of a domain. Returns `Nowhere` if the domain has no such move; the state must not be
@@ -466,7 +466,7 @@ impl<'s, 'a> SearchContext<'s, 'a> {
         match &task.run_action {
             RunAction::Do(call) => {
                 said_fits(call);
-                self.begin(world, at, task, call)
+                self.begin_call(world, at, task, call)
             }
             RunAction::Tell(flag) => Ok(self.raise(world, at, *flag)),
             RunAction::Await(flag) => Ok(self.go_past(world, at, *flag)),

@@ -7,8 +7,8 @@ use std::alloc::{AllocError, Global};
 /// A part of a state. A search keeps each part once.
 #[derive(Drop)]
 pub enum StatePart<'a> {
-    /// Whether a flag was raised.
-    Flag(bool),
+    /// For each flag, whether it was raised.
+    Flags(Vec<bool>),
     /// A domain.
     Domain(Actor<'a>),
     /// The grant table of a domain.
@@ -26,7 +26,7 @@ impl<'a> StatePart<'a> {
         ensures { part_shown result ≡ self.now }
     {
         match self {
-            StatePart::Flag(is_raised) => PartInState::Flag(*is_raised),
+            StatePart::Flags(told) => PartInState::Flags(told),
             StatePart::Domain(actor) => PartInState::Domain(actor),
             StatePart::Table(table) => PartInState::Table(table),
             StatePart::Page(page) => PartInState::Page(page),
@@ -44,8 +44,8 @@ impl<'a> StatePart<'a> {
 /// A part of a state, borrowed from the state.
 #[derive(Clone, Copy)]
 pub enum PartInState<'p, 'a> {
-    /// Whether a flag was raised.
-    Flag(bool),
+    /// For each flag, whether it was raised.
+    Flags(&'p Vec<bool>),
     /// A domain.
     Domain(&'p Actor<'a>),
     /// The grant table of a domain.
@@ -63,7 +63,9 @@ impl<'p, 'a> PartInState<'p, 'a> {
         ensures { IfOk result (SamePart (part_shown self.entry)) }
     {
         match self {
-            PartInState::Flag(is_raised) => Ok(StatePart::Flag(is_raised)),
+            PartInState::Flags(told) => {
+                Ok(StatePart::Flags(Vec::from_slice(alloc, told.as_slice())?))
+            }
             PartInState::Domain(actor) => Ok(StatePart::Domain(actor.copy(alloc)?)),
             PartInState::Table(table) => Ok(StatePart::Table(table.copy(alloc)?)),
             PartInState::Page(page) => Ok(StatePart::Page(page.copy(alloc)?)),
@@ -118,11 +120,10 @@ impl<'a> SearchState<'a> {
     pub fn part_at(&self, at: usize) -> Option<PartInState<'_, 'a>>
         ensures { option_map part_shown result ≡ slice_get (parts_of self.now) at }
     {
-        let told = self.told.as_slice();
-        if at < told.len() {
-            Some(PartInState::Flag(told[at]))
+        if at < 1 {
+            Some(PartInState::Flags(&self.told))
         } else {
-            self.actor_at(at - told.len())
+            self.actor_at(at - 1)
         }
     }
 
@@ -145,7 +146,7 @@ impl<'a> SearchState<'a> {
         ensures { OnOk result (lists_in self.new ≡ with_part (lists_in self.old) part.entry) }
     {
         match part {
-            StatePart::Flag(is_raised) => self.told.push(is_raised)?,
+            StatePart::Flags(told) => self.told = told,
             StatePart::Domain(actor) => self.actors.push(actor)?,
             StatePart::Table(table) => self.ground.tables.push(table)?,
             StatePart::Page(page) => self.ground.pages.push(page)?,

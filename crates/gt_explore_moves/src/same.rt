@@ -11,6 +11,20 @@ use crate::actor::{Actor, ActorCall, LabelledMapping};
 use crate::parts::{PartInState, StatePart};
 use gt_explore_state::{same_call, same_step};
 
+fn same_flags(one: &[bool], other: &[bool]) -> bool
+    ensures { IsTrue result → one.now ≡ other.now }
+{
+    if one.len() != other.len() {
+        return false;
+    }
+    'flags: for at in 0..one.len() {
+        if one[at] != other[at] {
+            return false;
+        }
+    }
+    true
+}
+
 fn same_task(one: Option<usize>, other: Option<usize>) -> bool
     ensures { IsTrue result → other ≡ one }
 {
@@ -69,7 +83,10 @@ pub fn same_parts(one: PartInState<'_, '_>, other: &StatePart) -> bool
     ensures { IsTrue result → SamePart (part_shown one.entry) other.now }
 {
     match (one, other) {
-        (PartInState::Flag(is_raised), StatePart::Flag(raised)) => is_raised == *raised,
+        (PartInState::Flags(told), StatePart::Flags(t)) => same_flags(
+            t.as_slice(),
+            told.as_slice(),
+        ),
         (PartInState::Domain(actor), StatePart::Domain(a)) => same_actor(actor, a),
         (PartInState::Table(table), StatePart::Table(t)) => table.is_same(t),
         (PartInState::Page(page), StatePart::Page(p)) => page.is_same(p),

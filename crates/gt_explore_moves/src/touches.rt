@@ -3,7 +3,7 @@ ghost use Rattle.std.specs.Prelude.{◌≡◌, IfOk};
 ghost use Rattle.std.specs.List.{list_any};
 ghost use Rattle.gt_explore_moves.specs.declared.actor.LabelledMapping.{LabelledMapping};
 ghost use Rattle.gt_model.specs.Path.{gref_of};
-ghost use Rattle.gt_explore_moves.specs.Swapping.{looks_header, stores_header};
+ghost use Rattle.gt_commuting.specs.Swapping.{looks_header, stores_header};
 ghost use Rattle.gt_explore_moves.specs.Touches.{is_access_step, is_load, is_on, is_store, is_write, meets};
 ghost use Rattle.gt_explore_moves.specs.Touches.{meets_bytes};
 ghost use Rattle.gt_explore_moves.specs.Touches.{meets_call, meets_dest, meets_leg, meets_mapping};

@@ -165,7 +165,7 @@ impl<'s, 'a> Replay<'s, 'a> {
             return walker.give_back(&mut self.core, turn.choice);
         };
         match &task.run_action {
-            RunAction::Do(call) => walker.begin(self.alloc, &mut self.core, types, task, call),
+            RunAction::Do(call) => walker.begin_call(self.alloc, &mut self.core, types, task, call),
             RunAction::Tell(flag) => {
                 if raise(&mut self.told, *flag) {
                     walker.skip();

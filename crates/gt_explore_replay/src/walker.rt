@@ -207,7 +207,7 @@ impl<'s, 'a> Walker<'s, 'a> {
     }
 
     // Begins the call of its next line.
-    pub(crate) fn begin(
+    pub(crate) fn begin_call(
         &mut self,
         alloc: Global,
         core: &mut Core<ScriptPolicy>,

@@ -93,7 +93,7 @@ fn place_for(pages: &[SparsePage], owner: DomId, frame: u64) -> usize
 }
 
 // Returns the index of the page of a frame, and makes the page if there is none.
-fn place_of(
+fn made_page(
     alloc: Global,
     pages: &mut Vec<SparsePage>,
     owner: DomId,
@@ -145,6 +145,6 @@ pub fn write(
     ensures { off ≤ FRAME_SIZE →
         OnOk result (WritesPage pages.old.items pages.new.items owner.0 frame off bytes.now) }
 {
-    let at = place_of(alloc, pages, owner, frame)?;
+    let at = made_page(alloc, pages, owner, frame)?;
     lay(&mut pages[at].bytes, off, bytes)
 }

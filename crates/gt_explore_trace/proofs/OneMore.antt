@@ -10,7 +10,8 @@ use Rattle.gt_script.specs.Contents.{type_names}
 use Rattle.gt_script.specs.RunContents.{RunContents}
 use Rattle.gt_explore_replay.specs.Orders.{Happening}
 use Rattle.gt_explore_trace.specs.Lines.{move_line, trace_lines}
-use Rattle.gt_explore_trace.specs.Moves.{AreMovesOf, IsMoveOf}
+use Rattle.gt_explore_search.specs.declared.spaces.Turn.{Turn}
+use Rattle.gt_explore_trace.specs.Moves.{AreByTurns, AreMovesOf, IsMoveOf}
 use Rattle.gt_explore_trace.specs.Places.{task_of_move}
 use Rattle.gt_explore_trace.specs.declared.facts.TraceForm.{TraceForm}
 use Rattle.gt_explore_trace.specs.declared.moves.TracedMove.{TracedMove}
@@ -20,6 +21,12 @@ moves_more [] [] m x are is = (is, tt)
 moves_more [] (y ∷ hs) m x are is = absurd are
 moves_more (n ∷ ms) [] m x are is = absurd are
 moves_more (n ∷ ms) (y ∷ hs) m x (first, rest) is = (first, moves_more ms hs m x rest is)
+
+pub turns_more : (ds : List DomainConfig) (ts : List Turn) (ms : List TracedMove) (t : Turn) (m : TracedMove) → AreByTurns ds ts ms → option_map (λ (d : DomainConfig). d.id) (slice_get ds t.place) ≡ Some m.dom → AreByTurns ds (ts ++ t ∷ []) (ms ++ m ∷ [])
+turns_more ds [] [] t m are own = (own, tt)
+turns_more ds [] (n ∷ ms) t m are own = absurd are
+turns_more ds (u ∷ ts) [] t m are own = absurd are
+turns_more ds (u ∷ ts) (n ∷ ms) t m (first, rest) own = (first, turns_more ds ts ms t m rest own)
 
 -- the domain at a position has the number of the one that moved
 pub mover : (ds : List DomainConfig) (k : ℕ) (d : DomainConfig) (x : DomId) → d ≡ get_or ds k d → option_map (λ (e : DomainConfig). e.id) (slice_get ds k) ≡ Some x → d.id ≡ x

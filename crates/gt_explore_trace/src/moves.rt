@@ -3,7 +3,7 @@ ghost use Rattle.std.specs.Prelude.{IfOk, IfSome};
 ghost use Rattle.gt_script.specs.Contents.{contents_of};
 ghost use Rattle.gt_script.specs.RunContents.{run_contents};
 ghost use Rattle.gt_script.specs.RunScripts.{CanConfigure};
-ghost use Rattle.gt_explore_trace.specs.Moves.{GivesText};
+ghost use Rattle.gt_explore_trace.specs.Moves.{AreByTurns, GivesText};
 
 use gt_explore_replay::{Moved, Replay};
 use gt_explore_search::Turn;
@@ -25,8 +25,8 @@ pub struct TracedOrder {
     pub text: Vec<u8>,
 }
 
-/// Makes these turns of a script, and returns the moves and the text. Returns None if some domain is not at its end
-/// after them, or could not take its turn.
+/// Makes these turns of a script, and returns the moves, one for each turn, and the text. Returns None if some domain
+/// is not at its end after them, or could not take its turn.
 ///
 /// # Errors
 /// `Memory` if an allocation fails.
@@ -36,8 +36,10 @@ pub fn traced(
     turns: &[Turn],
 ) -> Result<Option<TracedOrder>, Memory>
     requires { CanConfigure (contents_of script.now.head) }
-    ensures { IfOk result (λ t. IfSome t (λ order.
+    ensures gives { IfOk result (λ t. IfSome t (λ order.
         GivesText (run_contents script.now) order.moves.items order.text.items)) }
+    ensures turned { IfOk result (λ t. IfSome t (λ order.
+        AreByTurns (run_contents script.now).head.domains turns.now order.moves.items)) }
 {
     let domains = script.head().domains();
     let mut run = Replay::new(alloc, script)?;

@@ -1,3 +1,4 @@
 pub mod Answering
+pub mod MoveBlocks
 pub mod Tracing
 pub mod Writing

@@ -11,8 +11,8 @@ pub enum TraceRequest {
     Diagram(usize),
 }
 
-/// The options of a trace: the request, the largest number of states that the search may meet, and the format of the
-/// output.
+/// The options of a trace: the request, the largest number of states that each of its two searches may meet, and the
+/// format of the output.
 #[derive(Clone, Copy)]
 pub struct TraceOptions {
     pub request: TraceRequest,

@@ -43,7 +43,7 @@ fn made<T: SearchWatch>(
             Err(ExploreFault::Unfound)
         };
     }
-    match trace_answer(alloc, asked, script, &found) {
+    match trace_answer(alloc, asked, script, &found, watch) {
         Ok(made) => Ok(made),
         Err(fault) => Err(ExploreFault::Texts(fault)),
     }
@@ -93,8 +93,13 @@ pub fn trace_bytes<W: Write, T: SearchWatch>(
 
 /// Writes the moves of an order that leads to the text of a number, among the texts that the script of a reader may give.
 /// These are numbered as `explore` of `gt_explore` numbers them. In the format `Text`, each move is a line under the line
-/// `text K of M`, with a line `states S` at the end. In `Json` the text and each move are an object, and the last object
-/// has the numbers of the search. A sequence diagram is the same in both formats.
+/// `text K of M`, with the lines `blocks B, the fewest` and `states S` at the end. In `Json` the text, each move and the
+/// blocks are an object, and the last object has the numbers of the search. A sequence diagram is the same in both
+/// formats.
+///
+/// A second search, with the same limit, is for the order with the fewest blocks. If it reaches its limit, the watch
+/// ends it, or memory is wanting, the moves are those of the order that was found, and `perhaps not the fewest` is
+/// written.
 ///
 /// The verdict is `Holds` if the search met all states, and otherwise `Undecided`: there may then be more texts, and the
 /// text may have another number among all of them.

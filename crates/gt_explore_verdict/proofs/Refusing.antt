@@ -102,8 +102,8 @@ unfolding fits
 not_past form k w is none = clash (subst (λ (o : Option WordKind). is_of_some o w ≡ true) none is)
 
 -- a word that fits a form at some index has a place in it
-place_of : (form : AnswerForm) (k : ℕ) (w : List ℕ) → fits form k w ≡ true → has_place form w ≡ true
-place_of form k w is = at_0 (k == 0) refl
+fitting_place : (form : AnswerForm) (k : ℕ) (w : List ℕ) → fits form k w ≡ true → has_place form w ≡ true
+fitting_place form k w is = at_0 (k == 0) refl
   where
     here : (n : ℕ) → (k == n) ≡ true → fits form n w ≡ true
     here n e = subst (λ (m : ℕ). fits form m w ≡ true) (eqb-true k n e) is
@@ -151,7 +151,7 @@ fails of_all (word ∷ other ∷ more) line dom answer form listed one never fit
 fails of_all (word ∷ []) line dom answer form listed one never fit =
     is_false (list_any (λ w. bytes_eq w word) answer) (λ is.
     let place = fits_somewhere form 0 answer word fit is in
-    no_form (λ f. has_place f word) form listed never (place_of form place.0 word place.1))
+    no_form (λ f. has_place f word) form listed never (fitting_place form place.0 word place.1))
 fails (of_line number) (w ∷ ws) line dom answer form listed one never fit =
     second_false (bytes_eq line number) (begins answer (w ∷ ws)) (is_false (begins answer (w ∷ ws)) (λ is.
     no_form (λ f. begins_form f (w ∷ ws)) form listed never (begins_fits form 0 answer (w ∷ ws) fit is)))

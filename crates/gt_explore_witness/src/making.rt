@@ -217,7 +217,7 @@ impl WitnessScript {
     ) -> Result<(), AllocError> {
         match &task.run_action {
             RunAction::Do(call) => {
-                let name = self.names.begin(place, held, task.line, call)?;
+                let name = self.names.begin_call(place, held, task.line, call)?;
                 push_begin(self.alloc, &mut self.out, lines, task.line, shown(&name))
             }
             RunAction::Tell(_) | RunAction::Await(_) => Ok(()),

@@ -149,7 +149,7 @@ impl WitnessNames {
     }
 
     /// Returns the name of the label of a call that begins at this line. The domain has these mappings.
-    pub fn begin(
+    pub fn begin_call(
         &mut self,
         place: usize,
         held: &[Handle],

@@ -217,7 +217,7 @@ fn misfit_reason(alloc: Global, line: &str, words: &[&[u8]]) -> Result<Reason, A
 }
 
 // Returns where such a line has to be.
-fn place_of(line: &ScriptLine) -> &'static str {
+fn required_place(line: &ScriptLine) -> &'static str {
     match line {
         ScriptLine::Triple(_) =>
             "triple must come before wear and all domains, and not together with a policy block",
@@ -247,7 +247,7 @@ pub fn syntax_reason(alloc: Global, line: &str) -> Result<Reason, AllocError> {
         );
     }
     match read_line(words.as_slice()) {
-        Some(read) => Reason::of_line(alloc, place_of(&read)),
+        Some(read) => Reason::of_line(alloc, required_place(&read)),
         None => misfit_reason(alloc, line, words.as_slice()),
     }
 }

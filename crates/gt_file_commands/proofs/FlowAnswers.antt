@@ -9,8 +9,8 @@ use Rattle.gt_fault_reasons.specs.Blocks.{policy_block}
 use Rattle.gt_file_commands.specs.FlowBlocks.{FlowedAs, FlowedBlock, FlowedScript}
 use Rattle.gt_policy_questions.specs.declared.flows.asking.FlowQuestion.{FlowQuestion}
 use Rattle.gt_policy_questions.specs.declared.flows.asking.FlowReport.{FlowReport}
-use Rattle.gt_file_commands.specs.declared.flows.fault.FlowFault.{FlowFault}
-use Rattle.gt_file_commands.specs.declared.flows.fault.FlowFault.TheVariants.{NoBlock, NoSource, NoTarget, NoTrusted, Text}
+use Rattle.gt_policy_reasons.specs.declared.faults.FlowFault.{FlowFault}
+use Rattle.gt_policy_reasons.specs.declared.faults.FlowFault.TheVariants.{NoBlock, NoSource, NoTarget, NoTrusted, Text}
 use Rattle.gt_policy_list.specs.Faults.{listing_fault_of, listing_read_fault}
 use Rattle.gt_policy_list.specs.Reading.{IsNoText}
 use Rattle.gt_policy_list.specs.declared.fault.ListingFault.{ListingFault}

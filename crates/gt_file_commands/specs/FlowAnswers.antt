@@ -13,8 +13,8 @@ use Rattle.gt_policy_questions.specs.declared.flows.asking.FlowAnswer.{FlowAnswe
 use Rattle.gt_policy_questions.specs.declared.flows.asking.FlowAnswer.TheVariants as flow_answers
 use Rattle.gt_policy_questions.specs.declared.flows.asking.FlowQuestion.{FlowQuestion}
 use Rattle.gt_policy_questions.specs.declared.flows.asking.FlowReport.{FlowReport}
-use Rattle.gt_file_commands.specs.declared.flows.fault.FlowFault.{FlowFault}
-use Rattle.gt_file_commands.specs.declared.flows.fault.FlowFault.TheVariants.{NoBlock, NoSource, NoTarget, NoTrusted, Text}
+use Rattle.gt_policy_reasons.specs.declared.faults.FlowFault.{FlowFault}
+use Rattle.gt_policy_reasons.specs.declared.faults.FlowFault.TheVariants.{NoBlock, NoSource, NoTarget, NoTrusted, Text}
 
 -- the policy of the text has this answer to the question
 abbrev pub PolicyHasAnswer : List ℕ → FlowQuestion → FlowAnswer → FlowReport → Type 0

@@ -7,8 +7,8 @@ use Rattle.gt_types.specs.declared.limits.TheConstants.{LONGEST_TEXT}
 use Rattle.gt_fault_reasons.specs.Blocks.{policy_block}
 use Rattle.gt_file_commands.specs.FlowAnswers.{Flowed}
 use Rattle.gt_policy_questions.specs.declared.flows.asking.FlowQuestion.{FlowQuestion}
-use Rattle.gt_file_commands.specs.declared.flows.fault.FlowFault.{FlowFault}
-use Rattle.gt_file_commands.specs.declared.flows.fault.FlowFault.TheVariants as flow_faults
+use Rattle.gt_policy_reasons.specs.declared.faults.FlowFault.{FlowFault}
+use Rattle.gt_policy_reasons.specs.declared.faults.FlowFault.TheVariants as flow_faults
 use Rattle.gt_policy_list.specs.Reading.{IsNoText}
 use Rattle.gt_policy_list.specs.declared.fault.ListingFault.{ListingFault}
 use Rattle.gt_policy_list.specs.declared.fault.ListingFault.TheVariants as listing_faults

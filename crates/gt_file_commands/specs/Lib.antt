@@ -1,12 +1,10 @@
 pub mod AsJson
 pub mod FlowAnswers
 pub mod FlowBlocks
-pub mod FlowFaults
 pub mod Flows
 pub mod Formats
 pub mod JsonNames
 pub mod Laws
-pub mod Names
 pub mod Prelude
 pub mod Rules
 pub mod Working

@@ -4,7 +4,7 @@ pub use Rattle.gt_check_command.specs.declared.explaining.WhyRequest.{WhyRequest
 pub use Rattle.gt_findings.specs.declared.report.ReportForm.{ReportForm}
 pub use Rattle.gt_check_command.specs.Explaining.{Explained}
 pub use Rattle.gt_check_command.specs.Breaking.{CheckedNever}
-pub use Rattle.gt_check_command.specs.Faults.{breach_fault_text, why_fault_text}
+pub use Rattle.gt_policy_reasons.specs.Faults.{breach_fault_text, why_fault_text}
 pub use Rattle.gt_command_line.specs.Commands.{type_of}
 pub use Rattle.gt_command_line.specs.declared.invocation.Format.{Format}
 pub use Rattle.gt_entries.specs.Faults.{dump_fault_text}

@@ -6,7 +6,7 @@ use Rattle.std.specs.Str.Lines.{lines}
 use Rattle.gt_policy.specs.Allowing.{Meaning}
 use Rattle.gt_policy.specs.Whole.{ReadsAs}
 use Rattle.gt_file_commands.specs.Formats.{CheckedAs, IsFormOf, ListedAs, PlayedAs, WroteDumpAs}
-use Rattle.gt_file_commands.specs.Names.{shown_name}
+use Rattle.gt_command_reasons.specs.Names.{shown_name}
 use Rattle.gt_file_commands.specs.Prelude.{Keeps, option_map, Appends, AppendsBeginning, Format, DumpOptions}
 use Rattle.gt_file_commands.specs.Prelude.{WhyRequest, perm_asked, source_asked, target_asked, Explained, CheckedNever}
 use Rattle.gt_file_commands.specs.Prelude.{type_of, words, play_fault_text, claims_fault_text, listing_fault_text}
@@ -15,7 +15,7 @@ use Rattle.gt_file_commands.specs.Prelude.{CheckKind, Failure, Outcome, ReportFo
 use Rattle.gt_explore_choices.specs.Choices.{choices_fault_text}
 use Rattle.gt_state_claims.specs.Faults.{state_claim_fault_text}
 use Rattle.gt_file_commands.specs.FlowBlocks.{FlowedAs}
-use Rattle.gt_file_commands.specs.FlowFaults.{flow_fault_text}
+use Rattle.gt_policy_reasons.specs.Faults.{flow_fault_text}
 use Rattle.gt_policy_questions.specs.declared.flows.asking.FlowQuestion.{FlowQuestion}
 use Rattle.gt_policy_questions.specs.declared.flows.format.FlowFormat.{FlowFormat}
 use Rattle.gt_file_commands.specs.declared.checking.CheckKind.TheVariants as check_kinds

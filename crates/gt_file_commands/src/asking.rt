@@ -2,15 +2,15 @@
 ghost use Rattle.std.specs.Prelude.{◌≡◌};
 ghost use Rattle.std.specs.Option.{option_map};
 ghost use Rattle.gt_command_line.specs.Files.{file_name_of};
-ghost use Rattle.gt_file_commands.specs.Names.{shown_name};
+ghost use Rattle.gt_command_reasons.specs.Names.{shown_name};
 ghost use Rattle.gt_file_commands.specs.Working.{known_input, AnswersDump, AnswersFlow, AnswersQuestion, Lists, Plays, Works};
 
 use crate::commands::{Context, Work, work_asked};
 use crate::outcome::Outcome;
-use crate::reasons::{Reasons, shown_name};
 use crate::texts::TextSource;
 use gt_check_command::WhyRequest;
 use gt_command_line::{EntriesOptions, Format, ScriptOptions};
+use gt_command_reasons::{Reasons, shown_name};
 use gt_entries::DumpOptions;
 use gt_policy_questions::FlowQuestion;
 use gt_types::DomId;

@@ -4,7 +4,7 @@ ghost use Rattle.std.specs.Option.{option_map};
 ghost use Rattle.gt_text.specs.Streams.{OfInput};
 ghost use Rattle.gt_command_line.specs.Files.{file_name_of, file_names_of};
 ghost use Rattle.gt_file_commands.specs.Formats.{IsFormOf};
-ghost use Rattle.gt_file_commands.specs.Names.{shown_name};
+ghost use Rattle.gt_command_reasons.specs.Names.{shown_name};
 ghost use Rattle.gt_file_commands.specs.Working.{known_input, kind_checked, Checks, ChecksAll, ChecksAs, ChecksFiles};
 ghost use Rattle.gt_file_commands.specs.Working.{ChecksIn, ChecksNever, OrNothing, WithFile, Works};
 
@@ -14,14 +14,14 @@ use crate::failure::Failure;
 use crate::formats::ReportSettings;
 use crate::given::read_given;
 use crate::outcome::{Outcome, worse};
-use crate::reasons::{Reasons, shown_name};
 use crate::reporting::fail;
 use crate::style::Style;
 use crate::texts::TextSource;
-use gt_check_command::NeverText;
 use gt_command_line::{CheckedFiles, Format};
+use gt_command_reasons::{Reasons, shown_name};
 use gt_findings::ReportForm;
 use gt_policy_list::policy_text;
+use gt_policy_reasons::NeverText;
 use std::alloc::Global;
 use std::io::{Read, Write};
 
@@ -134,7 +134,7 @@ fn check_one<'a, R, T: TextSource, W: Write, E: Eprint>(
         file: shown_name(file),
         form: form_of(format, context.style),
     };
-    reasons.begin(file);
+    reasons.begin_file(file);
     work_asked(context, Work::Check { kind, report }, file, out, reasons)
 }
 

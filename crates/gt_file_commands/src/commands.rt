@@ -11,12 +11,12 @@ use crate::explained::{
 use crate::failure::Failure;
 use crate::formats::ReportSettings;
 use crate::outcome::Outcome;
-use crate::reasons::Reasons;
 use crate::reporting::finish;
 use crate::style::Style;
 use crate::texts::{TextSource, read_fault};
 use gt_check_command::WhyRequest;
 use gt_command_line::Format;
+use gt_command_reasons::Reasons;
 use gt_entries::DumpOptions;
 use gt_policy_questions::FlowQuestion;
 use std::alloc::Global;

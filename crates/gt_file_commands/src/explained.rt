@@ -6,14 +6,14 @@ ghost use Rattle.gt_file_commands.specs.FlowBlocks.{FlowedAs};
 ghost use Rattle.gt_file_commands.specs.Formats.{CheckedAs, ListedAs, PlayedAs, WroteDumpAs};
 
 use crate::flows::answering::flow_as;
-use crate::flows::fault::FlowFault;
 use crate::formats::{ReportSettings, check_as, entries_as, list_as, play_as};
-use crate::reasons::{CopyingReader, Reasons};
-use gt_check_command::{BreachFault, NeverText, WhyFault, WhyRequest, check_never, why};
+use gt_check_command::{WhyRequest, check_never, why};
 use gt_command_line::Format;
+use gt_command_reasons::{CopyingReader, Reasons};
 use gt_entries::{DumpFault, DumpOptions};
 use gt_policy_list::ListingFault;
 use gt_policy_questions::FlowQuestion;
+use gt_policy_reasons::{BreachFault, FlowFault, NeverText, WhyFault};
 use gt_script_runs::PlayFault;
 use std::alloc::Global;
 use std::io::{Read, Write};

@@ -1,10 +1,9 @@
 //! Failures of commands.
-use crate::flows::fault::FlowFault;
-use gt_check_command::{BreachFault, WhyFault};
 use gt_entries::DumpFault;
 use gt_explore_choices::ChoicesFault;
 use gt_explore_faults::ClaimsFault;
 use gt_policy_list::ListingFault;
+use gt_policy_reasons::{BreachFault, FlowFault, WhyFault};
 use gt_script_runs::PlayFault;
 use gt_state_claims::StateClaimFault;
 use gt_text::{ReadFault, WriteFault};

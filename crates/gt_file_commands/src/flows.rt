@@ -3,7 +3,6 @@ ghost use Rattle.std.specs.Prelude.{◌≡◌};
 ghost use Rattle.gt_file_commands.specs.Flows.{flow_format};
 
 pub(crate) mod answering;
-pub(crate) mod fault;
 
 use gt_command_line::Format;
 use gt_policy_questions::FlowFormat;

@@ -4,9 +4,9 @@ ghost use Rattle.std.specs.Prelude.{◌≡◌, IfOk, IfSome};
 use crate::commands::Context;
 use crate::failure::Failure;
 use crate::reading::read_whole;
-use crate::reasons::Reasons;
 use crate::reporting::fail;
 use crate::texts::{TextSource, read_fault};
+use gt_command_reasons::Reasons;
 use gt_text::ReadFault;
 
 // Reads the whole text of the named file.
@@ -34,7 +34,7 @@ pub fn read_given<'a, R, T: TextSource, E: Eprint>(
 ) -> Option<Vec<u8>>
     ensures { IfSome result (λ bytes. IfSome (T.file context.now.texts.now name.entry.now) (λ all. bytes.items ≡ all)) }
 {
-    reasons.begin(Some(name));
+    reasons.begin_file(Some(name));
     match read_named(context, name, reasons) {
         Ok(bytes) => Some(bytes),
         Err(fault) => {

@@ -16,10 +16,10 @@ use crate::failure::Failure;
 use crate::given::read_given;
 use crate::outcome::{Outcome, worse};
 use crate::reading::read_whole;
-use crate::reasons::Reasons;
 use crate::reporting::{fail, finish};
 use crate::texts::TextSource;
 use gt_check_command::WhyRequest;
+use gt_command_reasons::Reasons;
 use gt_policy::Policy;
 use gt_policy_list::{ListingFault, policy_text};
 use gt_policy_statements::WhyQuestion;
@@ -139,7 +139,7 @@ fn answer_asked<'a, R, T, W: Write, E: Eprint>(
             each: policy.each,
         },
     };
-    reasons.begin(Some(policy.file));
+    reasons.begin_file(Some(policy.file));
     let mut reader = policy.bytes;
     let ending = perform(context.alloc, work, &mut reader, out, reasons);
     finish(context, ending, Outcome::Unknown, reasons)
@@ -317,7 +317,7 @@ fn answer_input<'a, R, T: TextSource, W: Write, E: Eprint>(
     ensures { WithFile (T.input context.now.texts.now) (λ asked. AnswersLines policy.entry.each policy.entry.file.now
         (Some policy.entry.bytes.now) (lines_in asked)) (W.contents out.old) (W.contents out.new) result }
 {
-    reasons.begin(None);
+    reasons.begin_file(None);
     match read_whole(context.alloc, &mut context.texts.input(), reasons) {
         Ok(bytes) => answer_bytes(context, policy, bytes.as_slice(), out, reasons),
         Err(fault) => fail(context, Failure::File(fault), reasons),

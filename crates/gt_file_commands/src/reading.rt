@@ -1,7 +1,7 @@
 //! Texts that are read whole.
 ghost use Rattle.std.specs.Prelude.{◌≡◌, ◌≤◌, length, IfOk, IfSome};
 
-use crate::reasons::{CopyingReader, Reasons};
+use gt_command_reasons::{CopyingReader, Reasons};
 use gt_text::{ReadFault, read_text};
 use gt_types::LONGEST_TEXT;
 use std::alloc::Global;

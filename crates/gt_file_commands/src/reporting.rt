@@ -5,7 +5,7 @@ ghost use Rattle.gt_file_commands.specs.Working.{outcome_of_command};
 use crate::commands::Context;
 use crate::failure::Failure;
 use crate::outcome::{Outcome, outcome_of};
-use crate::reasons::Reasons;
+use gt_command_reasons::Reasons;
 
 /// Reports the failure of a command, if it failed, and returns the outcome: `failed` after a failure. A failed write of
 /// the report is not reported.

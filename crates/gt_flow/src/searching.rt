@@ -139,7 +139,7 @@ impl ReachedTypes {
     }
 
     // Returns the place of a type.
-    fn place_of(&self, target: TypeId) -> Option<usize>
+    fn target_place(&self, target: TypeId) -> Option<usize>
         ensures { result ≡ position (λ r. r.id.0 == target.0) self.now }
     {
         self.reached.iter().position(|r| r.id.0 == target.0)
@@ -154,7 +154,7 @@ impl ReachedTypes {
         ensures { (may : FlowPolicy) (trusted : TypeId → Bool) (source : TypeId)
             → IsSearched may trusted source self.now → IfOk result (λ path. HasPath may trusted source target (option_map (λ p. p.items) path)) }
     {
-        let Some(place) = self.place_of(target) else {
+        let Some(place) = self.target_place(target) else {
             return Ok(None);
         };
         let mut at = place;

@@ -42,7 +42,7 @@ impl<'b, 'a> OpenCalls<'b, 'a> {
     }
 
     /// Adds the open call of the domain, with the hypercall of its record.
-    pub fn begin(
+    pub fn begin_call(
         &mut self,
         dom: DomId,
         step: &'b ScriptStep<'a>,

@@ -175,7 +175,7 @@ fn run_begin<'b, 'a, P: Allows>(
             answer_call(alloc, &mut kept.labels, types, at, out)?;
         }
         Begun::Busy => push_busy_line(out, step.line, dom)?,
-        Begun::Open | Begun::NoDomain => kept.calls.begin(dom, step, hypercall)?,
+        Begun::Open | Begun::NoDomain => kept.calls.begin_call(dom, step, hypercall)?,
     }
     Ok(())
 }

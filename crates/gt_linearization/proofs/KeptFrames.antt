@@ -33,7 +33,7 @@ use Rattle.gt_model.specs.Holding.{frame_by, frame_of, held_by, owner_by}
 use Rattle.gt_calls.specs.Opening.{OpensCopy, OpensOwn, opens}
 use Rattle.gt_model.specs.Path.{AfterPin, AfterRefusal, Continuation, accesses, after_beginning, at_first_look}
 use Rattle.gt_model.specs.Path.{beyond, by_mapping, copies, dest_pair, end_leg, ended, entry_refusal, exchanges}
-use Rattle.gt_model.specs.Path.{give_back, held_of, last_step, leg, looks, makes, path_of, place_of, reaches}
+use Rattle.gt_model.specs.Path.{give_back, held_of, last_step, leg, looks, makes, path_of, end_spot, reaches}
 use Rattle.gt_model.specs.Path.{reads_body, refused_holding, rule_of_try, second_leg, source_pair, to_dest, tries}
 use Rattle.gt_model.specs.Path.{try_pin, unless_refused}
 use Rattle.gt_calls.specs.Resting.{Lets}
@@ -212,7 +212,7 @@ module _ (k : CallerKnowledge) (reads : Bool) where
   copies-so caller c none =
       reaches-so caller c.source Read c.len (source_pair caller c) [] (to_dest k caller c)
       (λ source there. reaches-so caller c.dest Write c.len (dest_pair caller source) (held_by source) (accesses caller c source)
-      (λ dest also. makes-so (call_steps.Copy (place_of caller c.source source) (place_of caller c.dest dest) c.len) _ (there, also) (give-back-so _ Granted))
+      (λ dest also. makes-so (call_steps.Copy (end_spot caller c.source source) (end_spot caller c.dest dest) c.len) _ (there, also) (give-back-so _ Granted))
       (is_dest_granted c) (λ own. (o.own_dest own).framed))
       (is_source_granted c) (λ own. (o.own_source own).framed)
     where

@@ -16,7 +16,7 @@ use Rattle.gt_word_history.specs.Rule.{Layout}
 use Rattle.gt_word_history.specs.Views.{with_step}
 use Rattle.gt_word_history.specs.declared.view.View.{View}
 use Rattle.gt_model.specs.Path.{Continuation, accesses, after_beginning, copies, dest_pair, end_leg, ended}
-use Rattle.gt_model.specs.Path.{is_copy_access, path_of, place_of, reaches, source_pair, to_dest}
+use Rattle.gt_model.specs.Path.{is_copy_access, path_of, end_spot, reaches, source_pair, to_dest}
 unfoldable use Rattle.gt_model.specs.Path.{without_access}
 use Rattle.gt_model.specs.Holding.{held_by}
 use Rattle.gt_model.specs.Rules.{CallerKnowledge, begun, first, granted_when, has_own_ends}
@@ -126,7 +126,7 @@ own-ways : (c : CallerKnowledge) (k : Layout) (caller : DomId) (args : CopyArgs)
 own-ways c k caller args source dest =
     subst (λ (b : Bool). IsOneAccess k (reaches c b (end_leg c caller args.source dirs.Read args.len) (source_pair caller args) [] (to_dest c caller args))) (sym source)
     (subst (λ (b : Bool). IsOneAccess k (reaches c b (end_leg c caller args.dest dirs.Write args.len) (dest_pair caller Own) (held_by Own) (accesses caller args Own))) (sym dest)
-    (one-access k (call_steps.Copy (place_of caller args.source Own) (place_of caller args.dest Own) args.len) tt))
+    (one-access k (call_steps.Copy (end_spot caller args.source Own) (end_spot caller args.dest Own) args.len) tt))
 
 both-own : (a b : Bool) → (not a && not b) ≡ true → (a ≡ false) × (b ≡ false)
 both-own false false e = (refl, refl)

@@ -22,7 +22,7 @@ use Rattle.gt_words.specs.Conditions.{Board, SeatOf}
 use Rattle.gt_word_history.specs.Rule.{Layout}
 use Rattle.gt_word_history.specs.History.{Moment}
 use Rattle.gt_word_history.specs.declared.view.View.{View}
-use Rattle.gt_access.specs.AccessPaths.{IsPinnedFor, ServesAccess}
+use Rattle.gt_live.specs.AccessPaths.{IsPinnedFor, ServesAccess}
 use Rattle.gt_frames.specs.Receipts.{Writing}
 use Rattle.gt_model.specs.declared.action.Observation.TheVariants.{Nothing}
 use Rattle.gt_model.specs.declared.action.Step.{Step}

@@ -21,7 +21,7 @@ use Rattle.gt_word_history.specs.Rule.{Layout}
 use Rattle.gt_word_history.specs.Views.{IsAmong}
 use Rattle.gt_word_history.specs.declared.view.View.{View}
 use Rattle.gt_frames.specs.Receipts.{Copying}
-use Rattle.gt_access.specs.AccessPaths.{MayCopyBy, MayCopyEach, ReachesBy, named_by, pair_beyond}
+use Rattle.gt_live.specs.AccessPaths.{MayCopyBy, MayCopyEach, ReachesBy, named_by, pair_beyond}
 use Rattle.gt_types.specs.declared.places.Spot.{Spot}
 use Rattle.gt_model.specs.declared.action.Step.TheVariants as call_steps
 use Rattle.gt_model.specs.declared.action.CallResult.{CallResult}
@@ -37,7 +37,7 @@ use Rattle.gt_model.specs.Holding.{frame_by, held_by, last_first, owner_by}
 use Rattle.gt_model.specs.Rules.{IsAllowed, CallerKnowledge, begun, copy_begun, denied, first, label_of, refused_when}
 use Rattle.gt_model.specs.Rules.{rights_to_copy, via_judged}
 use Rattle.gt_calls.specs.Opening.{IsOwnEnd, OpensCopy, opens}
-use Rattle.gt_model.specs.Path.{Continuation, dest_pair, give_back, path, place_of, source_pair}
+use Rattle.gt_model.specs.Path.{Continuation, dest_pair, give_back, path, end_spot, source_pair}
 use Rattle.gt_model.specs.declared.action.Observation.TheVariants.{Nothing}
 use Rattle.gt_model.specs.declared.request.OpenRequest.{OpenRequest}
 use Rattle.gt_model.specs.declared.request.OpenRequest.TheVariants as asks
@@ -206,15 +206,15 @@ reaches-dest c k s request pins from to len v r x all =
 abbrev pub Access : CallerKnowledge → Layout → DomId → CopyArgs → CallPins → View → View → Type 0
 Access c k caller copy pins v w =
     AtAccess c k (at_access caller copy pins)
-    (place_of caller copy.source pins.source) (place_of caller copy.dest pins.dest) copy.len v w
+    (end_spot caller copy.source pins.source) (end_spot caller copy.dest pins.dest) copy.len v w
 
 module _ (c : CallerKnowledge) (k : Layout) (s : SeatOf) (caller : DomId) (copy : CopyArgs) (pins : CallPins) (v : View)
     (me : s.dom ≡ caller) (a : Access c k caller copy pins v s.view) where
   abbrev pub from_place : Spot
-  from_place = place_of caller copy.source pins.source
+  from_place = end_spot caller copy.source pins.source
 
   abbrev pub to_place : Spot
-  to_place = place_of caller copy.dest pins.dest
+  to_place = end_spot caller copy.dest pins.dest
 
   access-rests : RestsOnWays c s.dom (asks.Copy copy) pins from_place to_place copy.len
   access-rests =

@@ -71,7 +71,7 @@ use Rattle.gt_calls.specs.Holding.{pins_so_far}
 use Rattle.gt_calls.specs.Machine.{action_at, after_dest_pin, after_leg, after_pin_of, after_source_pin, at_dest}
 use Rattle.gt_calls.specs.Machine.{next_to_give, phase_after, where_via}
 use Rattle.gt_calls.specs.Legs.{on_control_word, after_miss, after_words, leg_after, leg_step}
-use Rattle.gt_model.specs.Path.{Continuation, dest_pair, end_leg, entry_refusal, held_of, path, place_of, rule_of_try}
+use Rattle.gt_model.specs.Path.{Continuation, dest_pair, end_leg, entry_refusal, held_of, path, end_spot, rule_of_try}
 use Rattle.gt_model.specs.Path.{second_leg, source_pair}
 use Rattle.gt_calls.specs.Resting.{HasRead, HasSeenTable, IsLegFor, IsForwarded, IsMapped, IsOnFrom}
 use Rattle.gt_calls.specs.Resting.{IsOfRun, Lets, Rests, RestsOnTry}
@@ -442,8 +442,8 @@ module _ (c : CallerKnowledge) (k : Layout) (caller : DomId) (v : View) (knows :
     step-stands (Accessing copy source dest) s x acts st = by acts
       where
         by : actions.Step s ≡ action_at caller (Accessing copy source dest) → OnSo (Accessing copy source dest) x s
-        by e = let same : s ≡ call_steps.Copy (place_of caller copy.source source) (place_of caller copy.dest dest) copy.len = cc in
-            subst (λ (y : Step). OnSo (Accessing copy source dest) x y) (sym same) (λ m tries. absurd (no-access (place_of caller copy.source source) (place_of caller copy.dest dest) copy.len x m))
+        by e = let same : s ≡ call_steps.Copy (end_spot caller copy.source source) (end_spot caller copy.dest dest) copy.len = cc in
+            subst (λ (y : Step). OnSo (Accessing copy source dest) x y) (sym same) (λ m tries. absurd (no-access (end_spot caller copy.source source) (end_spot caller copy.dest dest) copy.len x m))
     step-stands (Ending pins (Refused denial)) s x acts st = by (last_first pins) refl acts
       where
         by : (ps : List HeldPin) → last_first pins ≡ ps → actions.Step s ≡ next_to_give ps (Refused denial) → OnSo (Ending pins (Refused denial)) x s

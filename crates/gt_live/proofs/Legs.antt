@@ -11,6 +11,9 @@ use Rattle.gt_model.specs.Words.{control_of, header_of, is_kind, size_of}
 use Rattle.gt_model.specs.declared.control.EntryKind.{EntryKind}
 use Rattle.gt_model.specs.declared.control.EntryKind.TheVariants.{Invalid, Page, Sub, Via}
 use Rattle.gt_word_history.specs.Rule.{Layout}
+use Rattle.gt_word_history.specs.Views.{last_of}
+use Rattle.gt_words.specs.Answers.{LooksAtControl}
+use Rattle.gt_words.specs.Conditions.{Board, IsSeatOf, IsWordOf, SeatOf, position_at}
 use Rattle.gt_word_history.specs.declared.view.View.{View}
 use Rattle.gt_calls.specs.Legs.{after_header, on_control_word, after_miss, after_relook, after_words, leg_after}
 use Rattle.gt_calls.specs.Legs.{leg_step}
@@ -86,6 +89,12 @@ no-sub Invalid other = refl
 no-sub Page other = refl
 no-sub Sub other = absurd (other refl)
 no-sub Via other = refl
+
+-- a look of a seat at the control word of the leg's entry
+pub control-made : (b : Board) (l : Leg) (n : ℕ) (s : SeatOf) (w : View) → IsSeatOf b s
+    → LooksAtControl b.layout (position_at b l.dom) l.gref.0 n s.view w
+    → (l.dom ≡ s.dom → IsWordOf (last_of l.gref.0 w) n) → Made b.layout (LookControl l.dom l.gref) (Word n) s.view w
+control-made b l n s w is look own = (look, λ same. own (same ∙ is.named))
 
 module _ (k : Layout) (l : Leg) (v : View) where
   -- a leg at its header has been walked so far

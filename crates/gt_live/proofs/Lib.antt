@@ -11,6 +11,7 @@ pub mod DomainKept
 pub mod Knowing
 pub mod Labels
 pub mod AnsweredAtOnce
+pub mod Covering
 pub mod Accessing
 pub mod OneStep
 pub mod Stepping

@@ -2,7 +2,7 @@
 use Rattle.std.specs.Prelude.{◌≡◌, ◌⊎◌, ℕ, List, [], ◌∷◌, ◌++◌, length, Some, Result, Ok, Err}
 use Rattle.gt_live.specs.Prelude.{DomId, Denial, N16, N26, denial_of, Layout, Moment, View, Copying, Reading, Writing}
 use Rattle.gt_live.specs.Prelude.{FrameName, IsReadOf, copying_at, writing_at, Observation, Nothing, Step, Granted}
-use Rattle.gt_live.specs.Prelude.{Refused, Continuation, position_in, Spot, SeatOf, AccessPath, Own, Direct, ReachesBy}
+use Rattle.gt_live.specs.Prelude.{Refused, Continuation, position_in, Spot, SeatOf, AccessPath, Own, Direct}
 use Rattle.gt_live.specs.Prelude.{Dir, Use, Read, Write, CallerKnowledge, CallPins, Copy, CopyArgs, Domain, HeldPin}
 use Rattle.gt_live.specs.Prelude.{Request, RestsOnWays, bytes_given_by, last_first, value_of}
 use Rattle.gt_model.specs.declared.action.Action.TheVariants as actions
@@ -15,7 +15,8 @@ use Rattle.gt_words.specs.Conditions.{Board}
 use Rattle.gt_words.specs.Frames.{AccessesFrame, CopiesFrames, KeepsFrame}
 use Rattle.gt_live.specs.Taken.{HasTaken}
 use Rattle.gt_live.specs.Walks.{AreMoments, Called, IsWalk, view_after, all_shown}
-pub use Rattle.gt_access.specs.AccessPaths.{writ_by}
+use Rattle.gt_live.specs.AccessPaths.{ReachesBy}
+pub use Rattle.gt_live.specs.AccessPaths.{writ_by}
 pub use Rattle.gt_calls.specs.Standing.{IsAccess}
 
 -- the rest of this path after these observations

@@ -4,7 +4,7 @@ use Rattle.std.specs.Prelude.{◌≡◌, List, [], ◌∷◌, Some, None, Result
 use Rattle.gt_live.specs.Prelude.{DomId, Read, Write, GrantRef, Denial, Layout, View, Nothing, Unpin, Refused, Phase}
 use Rattle.gt_live.specs.Prelude.{Accessing, Ending, Walking, PinPurpose, Source, Dest, HeldPin, CallPins, AccessPath}
 use Rattle.gt_live.specs.Prelude.{End, Leg, Header, Spot, CopyArgs, Copy, Call, last_first, no_pins, pins_so_far, without_last}
-use Rattle.gt_live.specs.Prelude.{after_pin_of, at_dest, end_leg, place_of, second_leg, CallerKnowledge, PendingCopy}
+use Rattle.gt_live.specs.Prelude.{after_pin_of, at_dest, end_leg, end_spot, second_leg, CallerKnowledge, PendingCopy}
 use Rattle.gt_model.specs.declared.request.PinHolder.TheVariants as holders
 use Rattle.gt_model.specs.declared.held.AccessPath.TheVariants.{Own}
 use Rattle.gt_live.specs.Driving.{CanMake}
@@ -59,7 +59,7 @@ after_copy copy (Err denial) = Ending no_pins (Refused denial)
 abbrev pub CopyStopsWith : CallerKnowledge → Layout → DomId → CopyArgs → Result CallPins Denial → View → View → Type 0
 CopyStopsWith c k caller copy (Ok pins) v w =
     AtAccess c k (copy_call caller copy (Accessing copy pins.source pins.dest))
-    (place_of caller copy.source pins.source) (place_of caller copy.dest pins.dest) copy.len v w
+    (end_spot caller copy.source pins.source) (end_spot caller copy.dest pins.dest) copy.len v w
 CopyStopsWith c k caller copy (Err denial) v w = EndsRefused c k (unmoved_copy caller copy) (Refused denial) v w
 
 -- these pins were released, in the order of the list, and nothing else was done
@@ -86,8 +86,8 @@ pending_call h = copy_call h.caller h.copy (Accessing h.copy h.pins.source h.pin
 
 -- the place where a copy at its access may read
 abbrev pub pending_from : PendingCopy → Spot
-pending_from h = place_of h.caller h.copy.source h.pins.source
+pending_from h = end_spot h.caller h.copy.source h.pins.source
 
 -- the place where it may write
 abbrev pub pending_to : PendingCopy → Spot
-pending_to h = place_of h.caller h.copy.dest h.pins.dest
+pending_to h = end_spot h.caller h.copy.dest h.pins.dest

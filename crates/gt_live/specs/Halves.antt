@@ -1,6 +1,6 @@
 -- A copy in two halves: the path to its access, which the monitor's caller makes, and the path from there to its end.
 use Rattle.std.specs.Prelude.{◌≡◌, ◌+◌, ◌≤◌, ℕ}
-use Rattle.gt_live.specs.Prelude.{Read, Write, IsSameSeat, KeepsPins, Layout, View, MayCopyBy, ReachesBy, Hypercall}
+use Rattle.gt_live.specs.Prelude.{Read, Write, IsSameSeat, KeepsPins, Layout, View, Hypercall}
 use Rattle.gt_live.specs.Prelude.{Record, Spot, Call, CopyArgs, path, path_of, CallerKnowledge, pins_by_call, Domain}
 use Rattle.gt_live.specs.Prelude.{PendingCopy, Monitor}
 use Rattle.gt_model.specs.declared.action.Step.TheVariants as call_steps
@@ -8,6 +8,7 @@ use Rattle.gt_types.specs.declared.Use.TheVariants as uses
 use Rattle.gt_audit.specs.declared.record.Hypercall.TheVariants as hypercalls
 use Rattle.gt_audit.specs.declared.record.Reply.TheVariants as replies
 use Rattle.gt_model.specs.declared.request.Request.TheVariants as requests
+use Rattle.gt_live.specs.AccessPaths.{MayCopyBy, ReachesBy}
 use Rattle.gt_live.specs.Accesses.{EndsAfterAccess, IsUnmade}
 use Rattle.gt_live.specs.Copies.{pending_call, pending_from, pending_to}
 use Rattle.gt_live.specs.Domains.{AllowRelation, BelongsTo, IsUnsettled, known_on}

@@ -1,5 +1,6 @@
 pub mod Walks
 pub mod Taken
+pub mod AccessPaths
 pub mod Accesses
 pub mod Mappings
 pub mod Ending

@@ -1,11 +1,12 @@
 -- The mappings of a domain, and the pins of its seat.
 use Rattle.std.specs.Prelude.{◌≡◌, ℕ, ◌==◌, ◌&&◌, Bool, true, false, nat_le, List}
-use Rattle.gt_live.specs.Prelude.{DomId, Dir, Read, Write, Perms, permits, ReachesBy, FrameName, SeatOf, Direct}
+use Rattle.gt_live.specs.Prelude.{DomId, Dir, Read, Write, Perms, permits, FrameName, SeatOf, Direct}
 use Rattle.gt_live.specs.Prelude.{generation_of, Layout, position_in, held, is_same_dir, View, HandleMap, KeepsSpent}
 use Rattle.gt_live.specs.Prelude.{IsInserted, IsTaken, count_passing, Handle, HeldPin, frame_of, IsAllowed}
 use Rattle.gt_live.specs.Prelude.{frame_count_of, label_of, map_perms, triples, TypeId, Domain, DomainConfig}
 use Rattle.gt_types.specs.declared.Use.TheVariants as uses
-pub use Rattle.gt_access.specs.AccessPaths.{HasPin, entry_record_of}
+use Rattle.gt_live.specs.AccessPaths.{ReachesBy}
+pub use Rattle.gt_live.specs.AccessPaths.{HasPin, entry_record_of}
 
 -- a mapping: its pin is held, of an entry that permits the caller and is of one of its owner's frames, and the policy
 -- allows what its map asked

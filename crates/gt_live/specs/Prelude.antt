@@ -1,6 +1,5 @@
 -- Names from other crates, and from the code, that these definitions use.
-pub use Rattle.gt_access.specs.Accesses.{IsReadOf, copying_at, writing_at}
-pub use Rattle.gt_access.specs.AccessPaths.{MayCopyBy, ReachesBy}
+pub use Rattle.gt_words.specs.Frames.{IsReadOf, copying_at, writing_at}
 pub use Rattle.gt_words.specs.declared.frames.AccessFault.{AccessFault}
 pub use Rattle.gt_words.specs.declared.frames.AccessFault.TheVariants.{Gone}
 pub use Rattle.gt_audit.specs.declared.record.Hypercall.{Hypercall}
@@ -14,7 +13,7 @@ pub use Rattle.gt_calls.specs.Holding.{pins_so_far}
 pub use Rattle.gt_calls.specs.Machine.{action_at, after_pin_of, at_dest}
 pub use Rattle.gt_model.specs.Rules.{IsAllowed, CallerKnowledge, begun, frame_count_of, label_of, map_perms, triples}
 pub use Rattle.gt_model.specs.Path.{AfterPin, AfterRefusal, Continuation, end_leg, entry_refusal, give_back, path}
-pub use Rattle.gt_model.specs.Path.{path_of, place_of, refused_at, second_leg, tries, try_pin, turn, turns}
+pub use Rattle.gt_model.specs.Path.{path_of, end_spot, refused_at, second_leg, tries, try_pin, turn, turns}
 pub use Rattle.gt_calls.specs.Resting.{Rests, RestsOnWays}
 pub use Rattle.gt_calls.specs.Known.{entry_in, own_generation, knowledge_of}
 pub use Rattle.gt_calls.specs.Standing.{IsAt, IsFreshCall, held_by_call, held_in, pins_by_call}

@@ -235,7 +235,7 @@ impl Domain {
     ghost use Rattle.gt_live.specs.Domains.{known_on, verdict_of_frames, verdict_of_size};
     ghost use Rattle.gt_live.specs.Domains.{verdict_of_version};
     ghost use Rattle.gt_live.specs.Mappings.{ReachesItsFrame, unused_handle};
-    ghost use Rattle.gt_access.specs.AccessPaths.{MayAccessBy};
+    ghost use Rattle.gt_live.specs.AccessPaths.{MayAccessBy};
     ghost use Rattle.gt_model.specs.declared.held.AccessPath.TheVariants.{Direct};
     ghost use Rattle.gt_handles.specs.Handles.{value_of};
     ghost use Rattle.gt_model.specs.declared.held.HeldPin.{HeldPin};

@@ -67,49 +67,6 @@ pub(crate) fn look_at_control(words: &Words, seat: &mut Seat, dom: DomId, gref: 
     words.load_control(seat, dom, gref)
 }
 
-// Each of these functions makes one step of a leg. `at` is the position of the leg's domain.
-#[inline(always)]
-fn leg_header(words: &Words, seat: &mut Seat, leg: &Leg, at: usize) -> u64
-    requires seat { IsSeatOf words.now seat.old }
-    requires place { at ≡ position_at words.now leg.now.dom }
-    requires can { CanMake words.now.layout seat.old.view (Step.LookHeader leg.now.dom) }
-    ensures seat { IsSameSeat seat.old seat.new }
-    ensures made { Made words.now.layout (Step.LookHeader leg.now.dom) (Observation.Word result)
-        seat.old.view seat.new.view }
-{
-    words.load_header_at(seat, leg.dom, at)
-}
-
-#[inline(always)]
-fn leg_control(words: &Words, seat: &mut Seat, leg: &Leg, at: usize) -> u64
-    requires seat { IsSeatOf words.now seat.old }
-    requires place { at ≡ position_at words.now leg.now.dom }
-    requires can { CanMake words.now.layout seat.old.view (Step.LookControl leg.now.dom leg.now.gref) }
-    ensures seat { IsSameSeat seat.old seat.new }
-    ensures made { Made words.now.layout (Step.LookControl leg.now.dom leg.now.gref) (Observation.Word result)
-        seat.old.view seat.new.view }
-{
-    words.load_control_at(seat, leg.dom, leg.gref, at)
-}
-
-#[inline(always)]
-fn look_at_body_word(
-    words: &Words,
-    seat: &mut Seat,
-    leg: &Leg,
-    body_word: BodyWord,
-    at: usize,
-) -> u64
-    requires seat { IsSeatOf words.now seat.old }
-    requires place { at ≡ position_at words.now leg.now.dom }
-    requires can { CanMake words.now.layout seat.old.view (Step.LookBody leg.now.dom leg.now.gref body_word) }
-    ensures seat { IsSameSeat seat.old seat.new }
-    ensures made { Made words.now.layout (Step.LookBody leg.now.dom leg.now.gref body_word) (Observation.Word result)
-        seat.old.view seat.new.view }
-{
-    words.load_body_at(seat, leg.dom, leg.gref, body_word, at)
-}
-
 // The body words of a try. The second is 0 unless the entry is a sub-page.
 #[derive(Clone, Copy)]
 struct BodyWords {
@@ -126,16 +83,17 @@ fn look_at_body(words: &Words, seat: &mut Seat, leg: &Leg, word: u64, at: usize)
     ensures seat { IsSameSeat seat.old seat.new }
     ensures read { ReadsBody words.now.layout leg.now word result.first result.second seat.old.view seat.new.view }
 {
-    let first = look_at_body_word(words, seat, leg, BodyWord::First, at);
+    let first = words.load_body_at(seat, leg.dom, leg.gref, BodyWord::First, at);
     match Control::unpack(word).kind {
         EntryKind::Sub => {
-            let second = look_at_body_word(words, seat, leg, BodyWord::Second, at);
+            let second = words.load_body_at(seat, leg.dom, leg.gref, BodyWord::Second, at);
             BodyWords { first, second }
         }
         _ => BodyWords { first, second: 0 },
     }
 }
 
+// Takes the pin, if the control word still is the one that was looked at. Otherwise returns the word found.
 #[inline(always)]
 fn take_pin(words: &Words, seat: &mut Seat, held: &HeldPin, at: usize) -> Result<(), u64>
     requires seat { IsSeatOf words.now seat.old }
@@ -146,7 +104,7 @@ fn take_pin(words: &Words, seat: &mut Seat, held: &HeldPin, at: usize) -> Result
         (λ _. Made words.now.layout (Step.Pin held.now) Observation.Taken seat.old.view seat.new.view)
         (λ n. Made words.now.layout (Step.Pin held.now) (Observation.Missed n) seat.old.view seat.new.view) }
 {
-    words.pin_at(seat, held.dom, held.gref, held.word, held.dir, at)
+    words.pin_at(seat, pin_of(*held), at)
 }
 
 // Walks a leg to its pin, or to its refusal. Its steps are made at the position of its domain, which is found once.
@@ -171,13 +129,13 @@ fn walk_leg_at(words: &Words, seat: &mut Seat, leg: &Leg, at: usize) -> Result<H
     ensures seat { IsSameSeat seat.old seat.new }
     ensures walked { WalksLeg words.now.layout leg.now seat.old.view (next_by result) seat.new.view }
 {
-    let header = leg_header(words, seat, leg, at);
+    let header = words.load_header_at(seat, leg.dom, at);
     if !has_entry(leg, header) {
         return Err(header_refusal(leg.dom, header));
     }
     let mut more = MORE_TRIES;
     'tries: loop {
-        let word = leg_control(words, seat, leg, at);
+        let word = words.load_control_at(seat, leg.dom, leg.gref, at);
         if let Some(rule) = judge_control(leg, word) {
             return Err(entry_refusal(leg.dom, leg.gref, rule, word));
         }
@@ -185,7 +143,7 @@ fn walk_leg_at(words: &Words, seat: &mut Seat, leg: &Leg, at: usize) -> Result<H
         let held = pinned(leg, word, body.first, body.second);
         let found = match judge_words(leg, word, body.first, body.second) {
             Some(rule) => {
-                let found = leg_control(words, seat, leg, at);
+                let found = words.load_control_at(seat, leg.dom, leg.gref, at);
                 if found == word {
                     return Err(entry_refusal(leg.dom, leg.gref, rule, word));
                 }

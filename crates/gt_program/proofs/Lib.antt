@@ -2,5 +2,3 @@ pub mod Chosen
 pub mod Obeyed
 mod OneExplored
 mod OneRun
-mod RelayLemmas
-pub mod RunLemmas

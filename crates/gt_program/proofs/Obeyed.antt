@@ -34,7 +34,7 @@ use Rattle.std.specs.Str.{bytes_eq}
 use Rattle.std.proofs.lemmas.Slice.Eq.{bytes_eq-Decides}
 use Rattle.gt_command_line.specs.declared.invocation.Invocation.{Invocation}
 use Rattle.gt_command_line.specs.declared.invocation.Format.{Format}
-use Rattle.gt_file_commands.specs.Names.{shown_name}
+use Rattle.gt_command_reasons.specs.Names.{shown_name}
 use Rattle.gt_explore_verdict.specs.declared.judging.Verdict.{Verdict}
 use Rattle.gt_explore_verdict.specs.declared.judging.Verdict.TheVariants.{Holds, Fails, Undecided}
 use Rattle.gt_explore_answers.specs.declared.asking.ExploreOptions.{ExploreOptions}
@@ -48,7 +48,7 @@ use Rattle.gt_file_commands.specs.Working.{ChecksIn, ChecksNever, DoesOnFile, Do
 use Rattle.gt_file_commands.specs.Working.{known_text}
 use Rattle.gt_file_commands.specs.declared.outcome.Outcome.{Outcome}
 use Rattle.gt_file_commands.specs.declared.outcome.Outcome.TheVariants.{No, Unknown, Yes}
-use Rattle.gt_program.specs.Runs.{RunsDomains}
+use Rattle.gt_run_command.specs.Runs.{RunsDomains}
 use Rattle.gt_program.specs.Obeying.{AnswersVerdict, FitsKind, AsksAboutText, IsAskedFor, IsHelped, Obeys}
 use Rattle.gt_program.specs.Obeying.{Searches, SearchesTexts, Seeks, explored_ending}
 use Rattle.gt_explore_faults.specs.declared.claims.ClaimsFault.{ClaimsFault}

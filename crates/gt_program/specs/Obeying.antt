@@ -10,9 +10,9 @@ use Rattle.gt_program.specs.Prelude.{to_list, to_play, to_run, to_tell_entries, 
 use Rattle.gt_program.specs.Prelude.{nothing, to_show_flow, mode_of, Sought, all_texts, a_claim, one_script, one_trace}
 use Rattle.gt_program.specs.Prelude.{one_diagram, all_scripts, several_claims, ExploreOptions, ExploreFormat}
 use Rattle.gt_program.specs.Prelude.{ClaimsFault}
-use Rattle.gt_program.specs.Prelude.{ClaimsExplored, NamedExplored, SearchAsked, Moment, Moves, One, Several}
+use Rattle.gt_program.specs.Prelude.{ClaimsExplored, NamedExplored, SearchAsked, Moment, Moves, One, Races, Several}
 use Rattle.gt_program.specs.Prelude.{Together, Summarized, SummaryOptions, SummaryRequest, Answers, Difference}
-use Rattle.gt_program.specs.Prelude.{a_summary, a_difference, a_state_claim, ReadsAsRun, Traced, TraceOptions}
+use Rattle.gt_program.specs.Prelude.{a_summary, a_difference, a_state_claim, all_races, RacesExplored, ReadsAsRun, Traced, TraceOptions}
 use Rattle.gt_program.specs.Prelude.{TraceRequest, Diagram, Trace}
 use Rattle.gt_explore_by_choice.specs.Exploring.{ExploresByChoices}
 use Rattle.gt_explore_by_choice.specs.declared.fault.UnitedFault.{UnitedFault}
@@ -36,7 +36,7 @@ use Rattle.gt_text.specs.declared.streams.TheConstants.{READ_LIMIT}
 use Rattle.gt_types.specs.declared.limits.TheConstants.{LONGEST_TEXT}
 use Rattle.gt_program.specs.Prelude.{ExploreRequest, Verdict, Holds, Fails, Undecided, Outcome, No, Unknown, Yes}
 use Rattle.gt_file_commands.specs.Flows.{flow_format}
-use Rattle.gt_file_commands.specs.Names.{shown_name}
+use Rattle.gt_command_reasons.specs.Names.{shown_name}
 use Rattle.gt_file_commands.specs.Rules.{PrintsRules}
 use Rattle.gt_file_commands.specs.Working.{AnswersDump, AnswersAboutFile, AnswersFlow, AnswersQuestion, ChecksAll}
 use Rattle.gt_file_commands.specs.Working.{ChecksAs}
@@ -44,7 +44,7 @@ use Rattle.gt_file_commands.specs.Working.{ChecksIn, ChecksNever, OutputEffect, 
 use Rattle.gt_file_commands.specs.Working.{known_text}
 use Rattle.gt_file_commands.specs.declared.failure.Failure.{Failure}
 use Rattle.gt_file_commands.specs.declared.failure.Failure.TheVariants as failures
-use Rattle.gt_program.specs.Runs.{RunsDomains}
+use Rattle.gt_run_command.specs.Runs.{RunsDomains}
 use Rattle.gt_command_line.specs.declared.invocation.Format.TheVariants.{Text, Json}
 use Rattle.gt_command_line.specs.declared.invocation.Mode.TheVariants as modes
 use Rattle.gt_explore_answers.specs.declared.asking.ExploreFormat.TheVariants as explore_formats
@@ -116,6 +116,17 @@ MovesExplored asked input old new (Err (claims_faults.Repeated first second)) = 
 MovesExplored asked input old new (Err (claims_faults.Precedence fault)) = ⊥
 MovesExplored asked input old new (Err claims_faults.Astray) = ⊥
 
+-- what was written for the lines that race; its faults are those of a search
+abbrev pub RacesSearched : ℕ → List ℕ → Option (List ℕ) → Option (List ℕ) → Result Verdict ClaimsFault → Type 0
+RacesSearched states input old new (Ok verdict) = RacesExplored states (ReadsAsRun input) old new (Ok verdict)
+RacesSearched states input old new (Err (claims_faults.Explore fault)) =
+    RacesExplored states (ReadsAsRun input) old new (Err fault)
+RacesSearched states input old new (Err (claims_faults.Kind number)) = ⊥
+RacesSearched states input old new (Err (claims_faults.Term claim number fault)) = ⊥
+RacesSearched states input old new (Err (claims_faults.Repeated first second)) = ⊥
+RacesSearched states input old new (Err (claims_faults.Precedence fault)) = ⊥
+RacesSearched states input old new (Err claims_faults.Astray) = ⊥
+
 -- the claim of a request whose expression has terms of order
 abbrev pub precedence_in : ℕ → ExploreFormat → ExploreRequest → Option PrecedenceOptions
 precedence_in states format (explore_requests.Decide claim expression) =
@@ -168,13 +179,14 @@ SearchesMoment asked input old new (Err failure) =
     × MomentExplored asked (ReadsAsRun input) old new (Err fault)
 
 -- a text without choices is explored, for what is asked: one request, in which calls may be named, several claims, a
--- summary, moves, or a claim about what entries show
+-- summary, moves, a claim about what entries show, or the lines that race
 abbrev pub SearchesPlain : SearchAsked → Doing
 SearchesPlain (One asked) input old new r = SearchesTexts (OneExplored asked input old new) r
 SearchesPlain (Several asked) input old new r = SearchesTexts (ClaimsExplored asked input old new) r
 SearchesPlain (Together asked) input old new r = SearchesTexts (SummaryExplored asked input old new) r
 SearchesPlain (Moves asked) input old new r = SearchesTexts (MovesExplored asked input old new) r
 SearchesPlain (Moment asked) input old new r = SearchesMoment asked input old new r
+SearchesPlain (Races states) input old new r = SearchesTexts (RacesSearched states input old new) r
 
 -- the failure for a fault of a script with choices
 abbrev pub failure_united : UnitedFault → Failure
@@ -196,14 +208,15 @@ abbrev pub SearchesWithoutOrder : Option PrecedenceOptions → ExploreOptions �
 SearchesWithoutOrder None asked source old new r = SearchesOne asked source old new r
 SearchesWithoutOrder (Some claim) asked source old new r = HasNoAnswer old new r
 
--- the same for several claims, summaries, moves and claims about what entries show, which have no answer for such a
--- script
+-- the same for several claims, summaries, moves, claims about what entries show and races, which have no answer for such
+-- a script
 abbrev pub SearchesByChoices : SearchAsked → Doing
 SearchesByChoices (One asked) source old new r = SearchesWithoutOrder (precedence_asked asked) asked source old new r
 SearchesByChoices (Several asked) source old new r = HasNoAnswer old new r
 SearchesByChoices (Together asked) source old new r = HasNoAnswer old new r
 SearchesByChoices (Moves asked) source old new r = HasNoAnswer old new r
 SearchesByChoices (Moment asked) source old new r = HasNoAnswer old new r
+SearchesByChoices (Races states) source old new r = HasNoAnswer old new r
 
 -- a line of the text is a choice: `maybe` or `leave`
 abbrev pub has_choice_line : List ℕ → Bool
@@ -297,6 +310,7 @@ IsAskedFor sought states format (Moves asked) =
     (sought ≡ sought_moves asked.request) × (asked.format ≡ format) × (asked.states ≡ states)
 IsAskedFor sought states format (Moment asked) =
     (sought ≡ a_state_claim asked.claim.now) × (asked.states ≡ states)
+IsAskedFor sought states format (Races limit) = (sought ≡ all_races) × (limit ≡ states)
 
 -- a script is explored so
 abbrev pub Seeks : Sought → Format → ℕ → Doing

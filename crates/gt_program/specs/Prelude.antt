@@ -8,18 +8,19 @@ pub use Rattle.gt_command_line.specs.Commands.{mode_of, to_list, to_play, to_run
 pub use Rattle.gt_command_line.specs.Commands.{to_tell_rules}
 pub use Rattle.gt_command_line.specs.Commands.{Sought, all_texts, a_claim, one_diagram, one_script, one_trace}
 pub use Rattle.gt_command_line.specs.Commands.{all_scripts}
-pub use Rattle.gt_command_line.specs.Commands.{a_difference, a_state_claim, a_summary, several_claims}
+pub use Rattle.gt_command_line.specs.Commands.{a_difference, a_state_claim, a_summary, all_races, several_claims}
 pub use Rattle.gt_command_line.specs.declared.invocation.Mode.{Mode}
 pub use Rattle.gt_command_line.specs.declared.invocation.Format.{Format}
 pub use Rattle.gt_explore_claims.specs.Exploring.{ClaimsExplored, NamedExplored}
 pub use Rattle.gt_explore_faults.specs.declared.claims.ClaimsFault.{ClaimsFault}
 pub use Rattle.gt_program.specs.declared.exploring.SearchAsked.{SearchAsked}
-pub use Rattle.gt_program.specs.declared.exploring.SearchAsked.TheVariants.{Moment, Moves, One, Several, Together}
+pub use Rattle.gt_program.specs.declared.exploring.SearchAsked.TheVariants.{Moment, Moves, One, Races, Several, Together}
 pub use Rattle.gt_script.specs.RunScripts.{ReadsAsRun}
 pub use Rattle.gt_explore_summary.specs.Written.{Summarized}
 pub use Rattle.gt_explore_summary.specs.declared.asking.SummaryOptions.{SummaryOptions}
 pub use Rattle.gt_explore_summary.specs.declared.asking.SummaryRequest.{SummaryRequest}
 pub use Rattle.gt_explore_summary.specs.declared.asking.SummaryRequest.TheVariants.{Answers, Difference}
+pub use Rattle.gt_explore_racing.specs.Exploring.{RacesExplored}
 pub use Rattle.gt_explore_tracing.specs.Writing.{Traced}
 pub use Rattle.gt_explore_tracing.specs.declared.asking.TraceOptions.{TraceOptions}
 pub use Rattle.gt_explore_tracing.specs.declared.asking.TraceRequest.{TraceRequest}

@@ -5,12 +5,13 @@ ghost use Rattle.gt_program.specs.Obeying.{IsSourceWithChoice, IsWithChoice, Sea
 ghost use Rattle.gt_program.specs.Obeying.{SearchesOne, failure_united};
 
 use crate::exploring::{SearchAsked, of_verdict, precedence_asked};
+use gt_command_reasons::{KeptInput, Reasons};
 use gt_explore_answers::ExploreOptions;
 use gt_explore_by_choice::{UnitedFault, explore_choices};
 use gt_explore_choices::{ChoicesFault, choices_of, first_choice};
 use gt_explore_faults::ClaimsFault;
 use gt_explore_search::SearchWatch;
-use gt_file_commands::{Failure, KeptInput, Outcome, Reasons};
+use gt_file_commands::{Failure, Outcome};
 use gt_text::text_of;
 use gt_types::LONGEST_TEXT;
 use std::alloc::{AllocError, Global};
@@ -108,7 +109,7 @@ fn unanswered(reasons: &mut Reasons) -> Failure
 }
 
 /// Answers what is asked on the texts that a script with choices may give. Several claims, claims with terms of order,
-/// summaries, moves and claims about what entries show have no answer.
+/// summaries, moves, claims about what entries show and races have no answer.
 pub(crate) fn search_choices<W: Write, X: SearchWatch>(
     alloc: Global,
     asked: &SearchAsked,
@@ -127,6 +128,7 @@ pub(crate) fn search_choices<W: Write, X: SearchWatch>(
         SearchAsked::Several(_)
         | SearchAsked::Together(_)
         | SearchAsked::Moves(_)
-        | SearchAsked::Moment(_) => { Err(unanswered(reasons)) }
+        | SearchAsked::Moment(_)
+        | SearchAsked::Races(_) => { Err(unanswered(reasons)) }
     }
 }

@@ -9,26 +9,26 @@ ghost use Rattle.gt_file_commands.specs.Working.{known_input, DoesOnFile, Works}
 ghost use Rattle.gt_file_commands.specs.declared.outcome.Outcome.TheVariants.{Unknown};
 ghost use Rattle.gt_program.specs.Obeying.{explore_format, explored_ending, verdict_outcome, FindsText, IsAskedFor};
 ghost use Rattle.gt_program.specs.Obeying.{Searches, SearchesPlain, Seeks, unread_failure};
-ghost use Rattle.gt_program.specs.Obeying.{MovesExplored, OneExplored, SeeksText, SummaryExplored, precedence_asked};
+ghost use Rattle.gt_program.specs.Obeying.{MovesExplored, OneExplored, RacesSearched, SeeksText, SummaryExplored};
+ghost use Rattle.gt_program.specs.Obeying.{precedence_asked};
 
 use crate::choosing::{search_choices, source_with_choice};
 use crate::moments::search_moment;
 use crate::progress::Progress;
 use gt_command_line::{Exploration, Format, SearchOptions};
+use gt_command_reasons::{CopyingReader, KeptInput, Reasons};
 use gt_explore_answers::{ExploreFormat, ExploreOptions, ExploreRequest};
 use gt_explore_choices::ChoicesFault;
 use gt_explore_claims::{ClaimsOptions, explore_claims, explore_named};
 use gt_explore_faults::{ClaimsFault, ExploreFault};
 use gt_explore_moments::MomentOptions;
 use gt_explore_precedence::{PrecedenceOptions, explore_preceding, has_precedence};
+use gt_explore_racing::explore_races;
 use gt_explore_search::SearchWatch;
 use gt_explore_summary::{SummaryOptions, SummaryRequest, summarize};
 use gt_explore_tracing::{TraceOptions, TraceRequest, trace_bytes};
 use gt_explore_verdict::Verdict;
-use gt_file_commands::{
-    Context, CopyingReader, Failure, KeptInput, Outcome, Reasons, TextSource, finish, read_fault,
-    read_given,
-};
+use gt_file_commands::{Context, Failure, Outcome, TextSource, finish, read_fault, read_given};
 use gt_script_runs::PlayFault;
 use gt_text::{ReadFault, read_text, text_of};
 use std::alloc::Global;
@@ -36,7 +36,7 @@ use std::io::{Read, Write};
 use std::time::Clock;
 
 /// What is asked about a script: one request about its texts, the verdicts on several claims, a summary, the moves that
-/// lead to a text, or the verdict on a claim about what entries show.
+/// lead to a text, the verdict on a claim about what entries show, or the lines that race, up to a number of states.
 #[derive(Clone, Copy)]
 pub(crate) enum SearchAsked<'w> {
     One(ExploreOptions<'w>),
@@ -44,6 +44,7 @@ pub(crate) enum SearchAsked<'w> {
     Together(SummaryOptions),
     Moves(TraceOptions),
     Moment(MomentOptions<'w>),
+    Races(usize),
 }
 
 // Returns the format of an exploration.
@@ -87,6 +88,7 @@ fn asked_for<'w>(asked: Exploration<'w>, states: usize, format: ExploreFormat) -
         Exploration::NeverState(claim) => {
             return SearchAsked::Moment(MomentOptions { claim, states });
         }
+        Exploration::Races => return SearchAsked::Races(states),
         Exploration::Witness(number) => ExploreRequest::Witness(number),
         Exploration::Witnesses => ExploreRequest::Witnesses,
         Exploration::Trace(number) => {
@@ -151,6 +153,23 @@ fn moves_asked<W: Write, X: SearchWatch>(
         MovesExplored options.now all (W.contents out.old) (W.contents out.new) result }
 {
     match trace_bytes(alloc, options, input, out, watch) {
+        Ok(verdict) => Ok(verdict),
+        Err(fault) => Err(ClaimsFault::Explore(fault)),
+    }
+}
+
+// Prints the pairs of lines of the script in these bytes that race.
+fn races_asked<W: Write, X: SearchWatch>(
+    alloc: Global,
+    states: usize,
+    input: &[u8],
+    out: &mut W,
+    watch: &mut X,
+) -> Result<Verdict, ClaimsFault>
+    ensures { (all : List ℕ) → input.now ≡ take READ_LIMIT all →
+        RacesSearched states all (W.contents out.old) (W.contents out.new) result }
+{
+    match explore_races(alloc, states, input, out, watch) {
         Ok(verdict) => Ok(verdict),
         Err(fault) => Err(ClaimsFault::Explore(fault)),
     }
@@ -244,6 +263,10 @@ fn search_plain<W: Write, X: SearchWatch>(
         SearchAsked::Moment(options) => {
             search_moment(alloc, options, input, out, reasons, watch)
         }
+        SearchAsked::Races(states) => {
+            let raced = races_asked(alloc, *states, input, out, watch);
+            explored_ending(alloc, input, raced, reasons)
+        }
     }
 }
 
@@ -306,7 +329,7 @@ fn search_on<R: Clock, T: TextSource, W: Write, E: Eprint>(
         (λ input. DoesOnFile (Searches asked.now) (file_name_of name.entry) input (W.contents out.old)
         (W.contents out.new) result) }
 {
-    let mut watch = Progress::begin(context);
+    let mut watch = Progress::begin_search(context);
     match name {
         None => {
             let mut input = context.texts.input();
@@ -373,7 +396,7 @@ fn find_bytes<'a, R: Clock, T: TextSource, W: Write, E: Eprint>(
         states: options.states,
         format: explore_format(options.format),
     });
-    reasons.begin(options.file);
+    reasons.begin_file(options.file);
     search_asked(context, &asked, options.file, out, reasons)
 }
 

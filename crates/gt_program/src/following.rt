@@ -3,15 +3,16 @@ ghost use Rattle.gt_command_line.specs.Commands.{asked_by_plan};
 ghost use Rattle.gt_program.specs.Obeying.{Obeys};
 
 use crate::exploring::{explore, find_text};
-use crate::running::run_asked;
 use gt_check_command::WhyRequest;
 use gt_command_line::Invocation;
+use gt_command_reasons::Reasons;
 use gt_file_commands::{
-    Context, Outcome, Reasons, TextSource, answer, answer_lines, check_files, check_never_files,
+    Context, Outcome, TextSource, answer, answer_lines, check_files, check_never_files,
     flow_format, list, play, print_rules, show_entries, show_flow,
 };
 use gt_policy_questions::FlowQuestion;
 use gt_policy_statements::WhyQuestion;
+use gt_run_command::run_asked;
 use std::io::Write;
 use std::sync::Wait;
 use std::thread::Threads;

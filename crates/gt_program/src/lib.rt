@@ -11,13 +11,13 @@
 //! known bytes, what is written for which words and with which status. That an error comes only if there is one is
 //! tested.
 //!
-//! It uses `gt_command_line` (plans) and `clap` (their errors), `gt_file_commands`, `gt_linearization`,
-//! `gt_explore_claims`, `gt_explore_precedence`, `gt_explore_tracing`, `gt_explore_by_choice` and `gt_explore_moments`
-//! (the commands), `gt_run` and `gt_script_runs` (gates and faults of runs), `gt_audit` (their log), `gt_json` (their
-//! JSON), `gt_explore_answers`, `gt_explore_choices`, `gt_explore_faults`, `gt_explore_search`, `gt_explore_summary` and
+//! It uses `gt_command_line` (plans) and `clap` (their errors), `gt_file_commands`, `gt_run_command`,
+//! `gt_explore_claims`, `gt_explore_precedence`, `gt_explore_tracing`, `gt_explore_racing`, `gt_explore_by_choice` and
+//! `gt_explore_moments` (the commands), `gt_command_reasons` (the reasons of faults), `gt_script_runs` (faults of plays),
+//! `gt_explore_answers`, `gt_explore_choices`, `gt_explore_faults`, `gt_explore_search`, `gt_explore_summary` and
 //! `gt_explore_verdict` (requests, choices, faults, progress, summaries and verdicts of `explore`),
-//! `gt_policy_statements` (questions), `gt_text` and `gt_types` (limits). Its definitions also name `gt_explore` and
-//! `gt_script`.
+//! `gt_policy_statements` (questions), `gt_text` and `gt_types` (limits). Its definitions also name `gt_explore`,
+//! `gt_linearization` and `gt_script`.
 #![tactic(auto)]
 
 mod choosing;
@@ -27,7 +27,6 @@ mod laws;
 mod moments;
 mod obeying;
 mod progress;
-mod running;
 mod system;
 
 pub use gt_file_commands::{Context, Outcome, Style, TextSource};

@@ -5,10 +5,11 @@ ghost use Rattle.gt_explore_faults.specs.declared.claims.ClaimsFault.TheVariants
 ghost use Rattle.gt_program.specs.Obeying.{SearchesMoment, moment_failure};
 
 use crate::exploring::of_verdict;
+use gt_command_reasons::{KeptInput, Reasons};
 use gt_explore_faults::{ClaimsFault, ExploreFault};
 use gt_explore_moments::{MomentFault, MomentOptions, explore_moment};
 use gt_explore_search::SearchWatch;
-use gt_file_commands::{Failure, KeptInput, Outcome, Reasons};
+use gt_file_commands::{Failure, Outcome};
 use std::alloc::Global;
 use std::io::Write;
 

@@ -15,7 +15,8 @@ use clap::error::ErrorKind;
 use gt_command_line::{
     Mode, command_first, leading_word, mode_of, plan, refusal_text, with_claims, with_long_flags,
 };
-use gt_file_commands::{Context, Failure, Outcome, Reasons, TextSource, report};
+use gt_command_reasons::Reasons;
+use gt_file_commands::{Context, Failure, Outcome, TextSource, report};
 use gt_text::WriteFault;
 use std::alloc::{AllocError, Global};
 use std::io::{self, Write};

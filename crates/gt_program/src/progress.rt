@@ -31,7 +31,7 @@ pub(crate) struct Progress<'c, R, T, E> {
 
 impl<'c, R: Clock, T: TextSource, E: Eprint> Progress<'c, R, T, E> {
     /// Begins to watch a search.
-    pub(crate) fn begin(context: &Context<'c, R, T, E>) -> Progress<'c, R, T, E> {
+    pub(crate) fn begin_search(context: &Context<'c, R, T, E>) -> Progress<'c, R, T, E> {
         let begun = if context.style.shows_progress {
             Instant::now(context.rt).ok()
         } else {

@@ -33,7 +33,7 @@ fn policy_of(alloc: Global, text: &[u8]) -> Result<Policy, EncodedFault>
 /// # Errors
 /// The policy's text is tested first, then the labels, then the configuration. The first fault is returned. An
 /// allocation that fails gives `memory`, at any time. No domain is left.
-pub fn begin(
+pub fn begin_run(
     alloc: Global,
     settings: &[DomainSettings],
     first_gen: u32,

@@ -10,6 +10,7 @@ pub mod Seeing
 pub mod StepDuties
 pub mod Headers
 pub mod StepFacts
+pub mod AtPosition
 pub mod PinsGone
 pub mod SeatsDealt
 pub mod Past

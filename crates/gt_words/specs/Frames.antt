@@ -73,6 +73,10 @@ writing_at name off ys writer =
 abbrev pub end_at : Spot → End
 end_at s = record { owner = s.frame.owner; number = s.frame.number; off = s.off }
 
+-- the byte at this offset of the frame
+abbrev pub spot_in : FrameName → ℕ → Spot
+spot_in name off = record { frame = name; off = off }
+
 -- len bytes, copied by this writer from one place to the other
 abbrev pub copying_at : Spot → Spot → ℕ → DomId → Copying
 copying_at from to len writer = record { source = end_at from; dest = end_at to; len = len; writer = writer }
@@ -83,6 +87,6 @@ IsFaultAt b name Gone = KeepsFrame b name → ⊥
 IsFaultAt b name Memory = Unit {0}
 
 -- the copy was not made because one of the frames is not in the table, or because allocation failed
-abbrev pub IsCopyFault : Board → Spot → Spot → AccessFault → Type 0
-IsCopyFault b from to Gone = KeepsFrame b from.frame → KeepsFrame b to.frame → ⊥
-IsCopyFault b from to Memory = Unit {0}
+abbrev pub IsCopyFault : Board → FrameName → FrameName → AccessFault → Type 0
+IsCopyFault b source dest Gone = KeepsFrame b source → KeepsFrame b dest → ⊥
+IsCopyFault b source dest Memory = Unit {0}

@@ -10,7 +10,7 @@ ghost use Rattle.gt_words.specs.Answers.{UnpinsPinTo};
 use crate::calls;
 use crate::words::{Pin, Seat, Words};
 use gt_entry::{BodyWord, Control};
-use gt_types::{Dir, DomId, GrantRef};
+use gt_types::{DomId, GrantRef};
 use gt_word_history::EntryAt;
 
 impl Words {
@@ -24,7 +24,7 @@ impl Words {
         ensures fits { IsSeatOf self.now seat.new }
         ensures look { LooksAtHeader self.now.layout (position_at self.now dom) result seat.old.view seat.new.view }
     {
-        calls::load_header(&self.words, &mut seat.place, at)
+        self.words.load_header(&mut seat.place, at)
     }
 
     /// Loads the control word of an entry of `dom`, whose position is `at`.
@@ -43,7 +43,7 @@ impl Words {
             position: at,
             gref: gref.0 as usize,
         };
-        calls::load_control(&self.words, &mut seat.place, entry)
+        self.words.load_control(&mut seat.place, entry)
     }
 
     /// Loads a body word of an entry of `dom`, whose position is `at`.
@@ -68,40 +68,33 @@ impl Words {
             position: at,
             gref: gref.0 as usize,
         };
-        calls::load_body(&self.words, &mut seat.place, entry, body_word)
+        self.words.load_body(&mut seat.place, entry, body_word)
     }
 
-    /// Takes a pin as [`pin`](Words::pin) does, on an entry of `dom`, whose position is `at`.
+    /// Takes this pin as [`pin`](Words::pin) does. `at` is the position of the domain `pin.dom`.
     ///
     /// # Errors
-    /// The word found, if it is not `looked`. No pin was taken.
+    /// The word found, if it is not `pin.word`. No pin was taken.
     #[inline(always)]
-    pub fn pin_at(
-        &self,
-        seat: &mut Seat,
-        dom: DomId,
-        gref: GrantRef,
-        looked: u64,
-        dir: Dir,
-        at: usize,
-    ) -> Result<(), u64>
+    pub fn pin_at(&self, seat: &mut Seat, pin: Pin, at: usize) -> Result<(), u64>
         requires seat { IsSeatOf self.now seat.old }
-        requires place { at ≡ position_at self.now dom }
-        requires entry { IsEntryOf self.now dom gref }
-        requires can { CanPin self.now.layout (position_at self.now dom) gref.0 dir looked seat.old.view }
+        requires place { at ≡ position_at self.now pin.dom }
+        requires entry { IsEntryOf self.now pin.dom pin.gref }
+        requires can { CanPin self.now.layout (position_at self.now pin.dom) pin.gref.0 pin.dir pin.word seat.old.view }
         ensures seat { IsSameSeat seat.old seat.new }
         ensures fits { IsSeatOf self.now seat.new }
         ensures step { MatchResult result
-            (λ _. Pins self.now.layout (position_at self.now dom) gref.0 dir looked seat.old.view seat.new.view)
-            (λ n. MissesPin self.now.layout (position_at self.now dom) gref.0 dir looked n
+            (λ _. Pins self.now.layout (position_at self.now pin.dom) pin.gref.0 pin.dir pin.word
+            seat.old.view seat.new.view)
+            (λ n. MissesPin self.now.layout (position_at self.now pin.dom) pin.gref.0 pin.dir pin.word n
             seat.old.view seat.new.view) }
-        ensures counted { CountsPins self.now.layout (position_at self.now dom) gref.0 dir }
+        ensures counted { CountsPins self.now.layout (position_at self.now pin.dom) pin.gref.0 pin.dir }
     {
         let entry = EntryAt {
             position: at,
-            gref: gref.0 as usize,
+            gref: pin.gref.0 as usize,
         };
-        calls::pin(&self.words, &mut seat.place, entry, looked, dir)
+        calls::pin(&self.words, &mut seat.place, entry, pin.word, pin.dir)
     }
 
     /// Releases a pin as [`unpin`](Words::unpin) does, and returns the control word that this left. `at` is the position

@@ -1,67 +1,18 @@
-//! The calls, with domains given by their positions. Each makes one step of the table, and its contract names the step.
+//! The calls that change a control word, with domains given by their positions. Each makes one step of the table, and
+//! its contract names the step.
 ghost use Rattle.std.specs.Prelude.{◌≡◌, ◌<◌, true, MatchResult};
 ghost use Rattle.gt_model.specs.Entries.{IsEntry};
-ghost use Rattle.gt_words.specs.Answers.{Changes, Demotes, LooksAtBody, LooksAtControl, LooksAtHeader, MissesBusy};
-ghost use Rattle.gt_words.specs.Answers.{MissesChange, MissesPin, Pins, Publishes, Revokes, StoresBody, StoresHeader};
+ghost use Rattle.gt_words.specs.Answers.{Changes, Demotes, MissesBusy, MissesChange, MissesPin, Pins, Publishes, Revokes};
 ghost use Rattle.gt_words.specs.Answers.{Unpins, UnpinsTo};
 ghost use Rattle.gt_words.specs.Conditions.{CanDemote, CanPin, CanPublish, CanRevoke, CanTurn, CanWithdraw};
-ghost use Rattle.gt_words.specs.Conditions.{CountsPins, Holds, IsWordOf};
+ghost use Rattle.gt_words.specs.Conditions.{CountsPins, Holds};
 ghost use Rattle.gt_word_history.specs.Controls.{IsTurnable, generation_of, turned_word, withdrawn_word};
 ghost use Rattle.gt_word_history.specs.Places.{IsInside, IsSamePlace};
-ghost use Rattle.gt_word_history.specs.Rule.{IsKeptHeader};
-ghost use Rattle.gt_word_history.specs.Views.{last_of};
 
-use gt_entry::{BodyWord, Control, Entry, EntryChange, Header, pin_unit};
+use gt_entry::{Control, Entry, EntryChange, pin_unit};
 use gt_shared_table::{SharedTable, TableSeat};
 use gt_types::{Dir, LAST_GENERATION};
 use gt_word_history::{EntryAt, Purpose, idle_word};
-
-/// Loads a domain's header word.
-pub(crate) fn load_header(words: &SharedTable, seat: &mut TableSeat, at: usize) -> u64
-    requires mine { seat.old.table ≡ words.now.table }
-    requires domain { at < words.now.layout.domains }
-    ensures seat { IsSamePlace seat.old seat.new }
-    ensures look { LooksAtHeader words.now.layout at result seat.old.view seat.new.view }
-{
-    words.load_header(seat, at)
-}
-
-/// Stores the owner's header.
-pub(crate) fn store_header(words: &SharedTable, seat: &mut TableSeat, at: usize, header: Header)
-    requires mine { (seat.old.table ≡ words.now.table) × (seat.old.view.position ≡ at) }
-    requires domain { at < words.now.layout.domains }
-    requires header { IsKeptHeader header }
-    ensures seat { IsSamePlace seat.old seat.new }
-    ensures step { StoresHeader words.now.layout header seat.old.view seat.new.view }
-{
-    words.store_header(seat, at, header.pack());
-}
-
-/// Loads the control word of an entry.
-pub(crate) fn load_control(words: &SharedTable, seat: &mut TableSeat, at: EntryAt) -> u64
-    requires mine { seat.old.table ≡ words.now.table }
-    requires entry { IsInside words.now.layout at }
-    ensures seat { IsSamePlace seat.old seat.new }
-    ensures look { LooksAtControl words.now.layout at.position at.gref result seat.old.view seat.new.view }
-    ensures own { seat.old.view.position ≡ at.position → IsWordOf (last_of at.gref seat.new.view) result }
-{
-    words.load_control(seat, at)
-}
-
-/// Loads a body word of an entry.
-pub(crate) fn load_body(
-    words: &SharedTable,
-    seat: &mut TableSeat,
-    at: EntryAt,
-    body_word: BodyWord,
-) -> u64
-    requires mine { seat.old.table ≡ words.now.table }
-    requires entry { IsInside words.now.layout at }
-    ensures seat { IsSamePlace seat.old seat.new }
-    ensures look { LooksAtBody words.now.layout at.position at.gref body_word result seat.old.view seat.new.view }
-{
-    words.load_body(seat, at, body_word)
-}
 
 /// Takes a pin if the control word still is `looked`. Otherwise returns the word found.
 pub(crate) fn pin(
@@ -103,23 +54,6 @@ pub(crate) fn unpin(
 {
     let found = words.subtract_pin(seat, at, dir, generation);
     found - pin_unit(dir)
-}
-
-/// Stores a body word of the owner's invalid entry.
-pub(crate) fn store_body(
-    words: &SharedTable,
-    seat: &mut TableSeat,
-    at: EntryAt,
-    body_word: BodyWord,
-    value: u64,
-)
-    requires mine { (seat.old.table ≡ words.now.table) × (seat.old.view.position ≡ at.position) }
-    requires entry { IsInside words.now.layout at }
-    requires invalid { (last_of at.gref seat.old.view).entry ≡ Entry.Invalid }
-    ensures seat { IsSamePlace seat.old seat.new }
-    ensures step { StoresBody words.now.layout at.gref body_word value seat.old.view seat.new.view }
-{
-    words.store_body(seat, at, body_word, value);
 }
 
 /// Publishes an entry whose body words the owner has stored, if the invalid entry has no pins. Otherwise returns the

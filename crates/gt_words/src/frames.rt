@@ -9,13 +9,13 @@ ghost use Rattle.gt_word_history.specs.Rule.{id_at};
 ghost use Rattle.gt_word_history.specs.Views.{own_header};
 ghost use Rattle.gt_word_history.specs.declared.view.FrameStep.TheVariants as frame_steps;
 ghost use Rattle.gt_words.specs.Conditions.{IsSameSeat, IsSeatOf, position_at};
-ghost use Rattle.gt_words.specs.Frames.{AccessesFrame, CopiesAt, CopiesFrames, IsCopyFault, IsFaultAt, IsReadOf, KeepsFrame};
-ghost use Rattle.gt_words.specs.Frames.{copying_at, index_of, writing_at};
+ghost use Rattle.gt_words.specs.Frames.{AccessesFrame, CopiesAt, IsCopyFault, IsFaultAt, IsReadOf, KeepsFrame};
+ghost use Rattle.gt_words.specs.Frames.{copying_at, frame_in, index_of, spot_in, writing_at};
 
 use crate::words::{Seat, Words};
-use gt_frames::{Copied, Filled, Writ, Written};
+use gt_frames::{Copied, Filled, Written};
 use gt_shared_table::{FrameCopy, FrameIndex, FrameWrite, SharedTable, TableSeat};
-use gt_types::{DomId, FrameName, Memory, Range, Spot};
+use gt_types::{DomId, FrameName, Memory};
 use std::sync::Wait;
 
 /// Why an access was not made. No frame has changed, and no step was made.
@@ -89,7 +89,7 @@ impl Words {
         Some(self.words.read_frame(rt, &mut seat.place, frame, off, out))
     }
 
-    /// Writes `bytes` to a frame by this writ, starting at `off`. Waits while another seat has the frame.
+    /// Writes bytes to a frame, by the writ of the write. Waits while another seat has the frame.
     ///
     /// # Errors
     /// [`AccessFault`]. No step was made.
@@ -99,35 +99,33 @@ impl Words {
         rt: &R,
         seat: &mut Seat,
         name: FrameName,
-        writ: &Writ,
-        off: u16,
-        bytes: &'a [u8],
+        write: FrameWrite<'_, 'a>,
     ) -> Result<Written<'a>, AccessFault>
         requires seat { IsSeatOf self.now seat.old }
-        requires range { off + length bytes.now ≤ FRAME_SIZE }
-        requires right { IsTrue (covers writ.now name.owner name.number off (length bytes.now)) }
+        requires range { write.off + length write.bytes.now ≤ FRAME_SIZE }
+        requires right { IsTrue (covers write.writ.now name.owner name.number write.off (length write.bytes.now)) }
         ensures seat { IsSameSeat seat.old seat.new }
         ensures fits { IsSeatOf self.now seat.new }
         ensures step { OnOk result (AccessesFrame self.now.layout (position_at self.now name.owner) name.number
-            (frame_steps.Wrote (record { writ = writ.now; off = off; bytes = bytes.now }))
+            (frame_steps.Wrote
+            (record { writ = write.entry.writ.now; off = write.entry.off; bytes = write.entry.bytes.now }))
             seat.old.view seat.new.view) }
-        ensures receipt { IfOk result (λ r. r ≡ writing_at name off bytes.now writ.now.writer) }
+        ensures receipt { IfOk result (λ r.
+            r ≡ writing_at name write.entry.off write.entry.bytes.now write.entry.writ.now.writer) }
         ensures fault { IfErr result (IsFaultAt self.now name) }
         ensures refused { OnErr result (seat.new.view ≡ seat.old.view) }
     {
         let Some(frame) = self.frame_at(seat, name) else {
             return Err(AccessFault::Gone);
         };
-        let write = FrameWrite { writ, off, bytes };
         match self.words.write_frame(rt, &mut seat.place, frame, write) {
             Ok(written) => Ok(written),
             Err(Memory) => Err(AccessFault::Memory),
         }
     }
 
-    /// Copies `len` bytes from one place to another by this writ, in one frame or between two. Waits while another seat
-    /// has one of the frames. Ranges of one frame may overlap: the bytes written are those that the source range held
-    /// before.
+    /// Copies a range of a frame to another one, or to another place of the same frame. Waits while another seat has
+    /// one of the frames. Ranges of one frame may overlap: the bytes written are those that the source range held before.
     ///
     /// # Errors
     /// [`AccessFault`]. No step was made.
@@ -136,36 +134,31 @@ impl Words {
         &self,
         rt: &R,
         seat: &mut Seat,
-        from: Spot,
-        to: Spot,
-        len: u16,
-        writ: &Writ,
+        source: FrameName,
+        dest: FrameName,
+        copy: FrameCopy<'_>,
     ) -> Result<Copied, AccessFault>
         requires seat { IsSeatOf self.now seat.old }
-        requires ranges { (from.off + len ≤ FRAME_SIZE) × (to.off + len ≤ FRAME_SIZE) }
-        requires right { IsTrue (covers writ.now to.frame.owner to.frame.number to.off len) }
+        requires ranges { (copy.range.off + copy.range.len ≤ FRAME_SIZE)
+            × (copy.to_off + copy.range.len ≤ FRAME_SIZE) }
+        requires right { IsTrue (covers copy.writ.now dest.owner dest.number copy.to_off copy.range.len) }
         ensures seat { IsSameSeat seat.old seat.new }
         ensures fits { IsSeatOf self.now seat.new }
-        ensures step { OnOk result (CopiesFrames self.now.layout from to len writ.now seat.old.view seat.new.view) }
-        ensures receipt { IfOk result (λ r. r ≡ copying_at from to len writ.now.writer) }
-        ensures fault { IfErr result (IsCopyFault self.now from to) }
+        ensures step { OnOk result (CopiesAt self.now.layout
+            (frame_in self.now.layout source) (frame_in self.now.layout dest)
+            copy.entry.writ.now copy.entry.range copy.entry.to_off seat.old.view seat.new.view) }
+        ensures receipt { IfOk result (λ r. r ≡ copying_at (spot_in source copy.entry.range.off)
+            (spot_in dest copy.entry.to_off) copy.entry.range.len copy.entry.writ.now.writer) }
+        ensures fault { IfErr result (IsCopyFault self.now source dest) }
         ensures refused { OnErr result (seat.new.view ≡ seat.old.view) }
     {
-        let Some(source) = self.frame_at(seat, from.frame) else {
+        let Some(from) = self.frame_at(seat, source) else {
             return Err(AccessFault::Gone);
         };
-        let Some(dest) = self.frame_at(seat, to.frame) else {
+        let Some(to) = self.frame_at(seat, dest) else {
             return Err(AccessFault::Gone);
         };
-        let copy = FrameCopy {
-            writ,
-            range: Range { off: from.off, len },
-            to_off: to.off,
-        };
-        match self
-            .words
-            .copy_frames(rt, &mut seat.place, source, dest, copy)
-        {
+        match self.words.copy_frames(rt, &mut seat.place, from, to, copy) {
             Ok(copied) => Ok(copied),
             Err(Memory) => Err(AccessFault::Memory),
         }

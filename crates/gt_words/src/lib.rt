@@ -26,7 +26,7 @@ mod start;
 mod words;
 
 pub use frames::AccessFault;
-pub use gt_shared_table::Gathered;
+pub use gt_shared_table::{FrameCopy, FrameWrite, Gathered};
 pub use gt_word_history::{
     EntryRecord, EntryStep, FlagStep, FrameStep, HeaderStep, Outlook, Purpose, SeatStep, View,
 };

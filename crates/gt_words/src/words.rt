@@ -97,7 +97,7 @@ impl Model for Words {
     ghost invariant = { λ w. (w.ids ≡ w.words.layout.ids) × IsLayoutWithinLimits w.words.layout };
 }
 
-/// A pin that a seat holds: its entry, the control word before the pin was added, and its kind.
+/// A pin of a seat: its entry, the control word before the pin was added, and its kind.
 #[derive(Clone, Copy)]
 pub struct Pin {
     pub dom: DomId,
@@ -224,7 +224,7 @@ impl Words {
         ensures step { StoresHeader self.now.layout header seat.old.view seat.new.view }
     {
         let at = seat.position;
-        calls::store_header(&self.words, &mut seat.place, at, header);
+        self.words.store_header(&mut seat.place, at, header.pack());
         seat.header = header;
     }
 
@@ -313,13 +313,14 @@ impl Words {
         ensures counted { CountsPins self.now.layout (position_at self.now dom) gref.0 dir }
     {
         let at = self.position(seat, dom);
-        self.pin_at(seat, dom, gref, looked, dir, at)?;
-        Ok(Pin {
+        let pin = Pin {
             dom,
             gref,
             word: looked,
             dir,
-        })
+        };
+        self.pin_at(seat, pin, at)?;
+        Ok(pin)
     }
 
     /// Releases a pin of the seat, by one subtraction, and returns the control word that this left: whether the entry is
@@ -351,7 +352,7 @@ impl Words {
             position: seat.position,
             gref: gref.0 as usize,
         };
-        calls::store_body(&self.words, &mut seat.place, at, body_word, value);
+        self.words.store_body(&mut seat.place, at, body_word, value);
     }
 
     /// Publishes an entry at the next generation, by one exchange from the invalid word without pins. The owner has

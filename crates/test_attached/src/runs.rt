@@ -4,7 +4,7 @@ use gt_attached::{AttachedDomain, MapRequest};
 use gt_calls::Handle;
 use gt_entry::{Control, Entry, EntryKind};
 use gt_live::Followed;
-use gt_start::{DomainSettings, begin, type_name, type_of};
+use gt_start::{DomainSettings, begin_run, type_name, type_of};
 use gt_types::{DomId, GrantRef, LAST_GENERATION, Rule};
 use std::alloc::{AllocError, Global};
 
@@ -198,7 +198,7 @@ fn run(alloc: Global, count: u16) -> Result<(usize, [u16; 4]), AllocError> {
         Err(_) => return Err(AllocError),
     };
     let settings = settings(alloc, count, label)?;
-    let Ok(mut guests) = begin(alloc, settings.as_slice(), 0, POLICY) else {
+    let Ok(mut guests) = begin_run(alloc, settings.as_slice(), 0, POLICY) else {
         return Err(AllocError);
     };
     let len = guests.len();
@@ -211,7 +211,7 @@ fn run(alloc: Global, count: u16) -> Result<(usize, [u16; 4]), AllocError> {
 // Begins a run of this number of domains, which leave without a call. Returns how many began.
 fn begins(alloc: Global, count: u16) -> Result<usize, AllocError> {
     let settings = settings(alloc, count, 1)?;
-    match begin(alloc, settings.as_slice(), 0, POLICY) {
+    match begin_run(alloc, settings.as_slice(), 0, POLICY) {
         Ok(guests) => Ok(guests.len()),
         Err(_) => Ok(0),
     }
@@ -311,7 +311,7 @@ fn first_wrong(pair: &mut Pair, acts: &[Act]) -> Option<usize> {
 
 fn begin_pair(alloc: Global, first_gen: u32) -> Result<Pair, AllocError> {
     let settings = settings(alloc, 2, 1)?;
-    let Ok(mut guests) = begin(alloc, settings.as_slice(), first_gen, POLICY) else {
+    let Ok(mut guests) = begin_run(alloc, settings.as_slice(), first_gen, POLICY) else {
         return Err(AllocError);
     };
     let (Some(mapper), Some(owner)) = (guests.pop(), guests.pop()) else {
@@ -599,7 +599,7 @@ fn a_dropped_domain_closes_its_table(rt: HostRuntime) -> Result<(), AllocError> 
 #[test]
 fn a_label_past_the_types_is_a_fault(rt: HostRuntime) -> Result<(), AllocError> {
     let settings = settings(rt.alloc(), 2, 2)?;
-    match begin(rt.alloc(), settings.as_slice(), 0, POLICY) {
+    match begin_run(rt.alloc(), settings.as_slice(), 0, POLICY) {
         Ok(_) => assert!(rt; false, "it began"),
         Err(fault) => assert_eq!(rt; (fault.kind, fault.dom), (19, 1)),
     }

@@ -212,7 +212,7 @@ fn is_as_before(core: &mut Core<Triples>, dom: DomId, before: Option<EntryView>)
 }
 
 // Begins a call, and again if an allocation failed, unless that changed the core.
-fn begin(core: &mut Core<Triples>, dom: DomId, request: Request<'_>) -> Result<Begun, Memory> {
+fn begin_call(core: &mut Core<Triples>, dom: DomId, request: Request<'_>) -> Result<Begun, Memory> {
     let before = show(core, 0);
     match begin_once(core, dom, request) {
         Err(Memory) if is_as_before(core, dom, before) => begin_once(core, dom, request),
@@ -313,7 +313,7 @@ fn called(
     request: Request<'_>,
     ticks: u32,
 ) -> Result<Begun, Memory> {
-    match begin(core, dom, request)? {
+    match begin_call(core, dom, request)? {
         Begun::Open => ticked(core, dom, ticks),
         begun => Ok(begun),
     }
@@ -437,7 +437,7 @@ fn call_steps_said(
     dom: DomId,
     request: Request<'_>,
 ) -> Result<String, Memory> {
-    match begin(core, dom, request)? {
+    match begin_call(core, dom, request)? {
         Begun::Open => steps_said(alloc, core, dom),
         begun => call_said(alloc, &begun),
     }

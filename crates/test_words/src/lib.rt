@@ -1,5 +1,5 @@
-//! Tests of the words and the frames of a run: `gt_words`, the plain frames of `gt_frames`, and the routes of a domain
-//! to frames (`gt_access`), over their public items.
+//! Tests of the words and the frames of a run, over the public items of `gt_words`, and of the plain frames of
+//! `gt_frames`.
 //!
 //! They test what no contract specifies. By its contract a call could always answer `None`, `false` or `Memory`; the
 //! tests show that it does its work if memory is ample. They compare the worked words of grants, pins, changes and
@@ -10,8 +10,6 @@
 //! in `test_base`.
 #![tactic(auto)]
 
-#[cfg(test)]
-mod accesses;
 #[cfg(test)]
 mod calls;
 #[cfg(test)]

@@ -5,8 +5,8 @@ ghost use Rattle.gt_words.specs.Conditions.{IsSeatOf};
 
 use crate::places::{BYTES, at, config, text};
 use gt_frames::{FrameName, Spot, Writ, WriteBasis};
-use gt_types::{DomId, StartFault};
-use gt_words::{Seat, Words};
+use gt_types::{DomId, Range, StartFault};
+use gt_words::{FrameCopy, FrameWrite, Seat, Words};
 use std::alloc::{AllocError, Global};
 use std::process::Abort;
 use std::sync::Wait;
@@ -57,9 +57,13 @@ fn wrote<R: Wait>(rt: &R, words: &Words, seat: &mut Seat, to: FrameName) -> bool
     requires { IsSeatOf words.now seat.old }
     ensures { IsSeatOf words.now seat.new }
 {
-    words
-        .write_frame(rt, seat, to, &by_owner(to), 0, &BYTES)
-        .is_ok()
+    let writ = by_owner(to);
+    let write = FrameWrite {
+        writ: &writ,
+        off: 0,
+        bytes: &BYTES,
+    };
+    words.write_frame(rt, seat, to, write).is_ok()
 }
 
 // Copies four bytes as the owner of the second frame, if there are such frames.
@@ -67,10 +71,19 @@ fn copied<R: Wait>(rt: &R, words: &Words, seat: &mut Seat, from: Spot, to: Spot)
     requires { IsSeatOf words.now seat.old }
     ensures { IsSeatOf words.now seat.new }
 {
+    let writ = by_owner(to.frame);
+    let copy = FrameCopy {
+        writ: &writ,
+        range: Range {
+            off: from.off,
+            len: 4,
+        },
+        to_off: to.off,
+    };
     from.off <= 4092
         && to.off <= 4092
         && words
-            .copy_frames(rt, seat, from, to, 4, &by_owner(to.frame))
+            .copy_frames(rt, seat, from.frame, to.frame, copy)
             .is_ok()
 }
 
@@ -103,19 +116,29 @@ fn said<R: Wait>(
     text(alloc, done, first_bytes(rt, words, seat, to.frame))
 }
 
-// Writes the first bytes and makes the copies. Returns the first copy after which something else is said.
+// The same between frames of the seat's own domain.
+static OWN_COPIES: [(Spot, Spot, &str); 5] = [
+    (at!(1, 0, 0), at!(1, 0, 1), "true [1, 1, 2, 3, 4, 0]"),
+    (at!(1, 0, 1), at!(1, 1, 2), "true [0, 0, 1, 2, 3, 4]"),
+    (at!(1, 1, 2), at!(1, 0, 0), "true [1, 2, 3, 4, 4, 0]"),
+    (at!(1, 1, 0), at!(1, 2, 0), "false none"),
+    (at!(1, 2, 0), at!(1, 1, 0), "false [0, 0, 1, 2, 3, 4]"),
+];
+
+// Writes the first bytes and makes these copies. Returns the first copy after which something else is said.
 fn first_wrong<R: Wait>(
     rt: &R,
     alloc: Global,
     words: &Words,
     seat: &mut Seat,
+    rows: &[(Spot, Spot, &str)],
 ) -> Result<Option<Spot>, Fail>
     requires { IsSeatOf words.now seat.old }
 {
     if !wrote(rt, words, seat, HERE.frame) {
         return Ok(Some(HERE));
     }
-    'copies: for (from, to, wanted) in COPIES.iter() {
+    'copies: for (from, to, wanted) in rows.iter() {
         if said(rt, alloc, words, seat, *from, *to)?.as_str() != *wanted {
             return Ok(Some(*from));
         }
@@ -123,14 +146,25 @@ fn first_wrong<R: Wait>(
     Ok(None)
 }
 
-fn first_wrong_in_the_table<R: Wait + Abort>(rt: &R, alloc: Global) -> Result<Option<Spot>, Fail> {
+fn first_wrong_of<R: Wait + Abort>(
+    rt: &R,
+    alloc: Global,
+    rows: &[(Spot, Spot, &str)],
+) -> Result<Option<Spot>, Fail> {
     let (words, mut seat, _) = start(rt, alloc)?;
-    first_wrong(rt, alloc, &words, &mut seat)
+    first_wrong(rt, alloc, &words, &mut seat, rows)
 }
 
 #[test]
 fn frames_are_copied_in_the_table(rt: HostRuntime) -> Result<(), Fail> {
-    let wrong = first_wrong_in_the_table(&rt, rt.alloc())?;
+    let wrong = first_wrong_of(&rt, rt.alloc(), &COPIES)?;
+    assert_eq!(rt; wrong, None);
+    Ok(())
+}
+
+#[test]
+fn own_frames_are_written_copied_and_read(rt: HostRuntime) -> Result<(), Fail> {
+    let wrong = first_wrong_of(&rt, rt.alloc(), &OWN_COPIES)?;
     assert_eq!(rt; wrong, None);
     Ok(())
 }

@@ -16,7 +16,7 @@ use Rattle.gt_types.specs.declared.Use.TheVariants as uses
 use Rattle.gt_core.proofs.{Phases.none-of}
 use Rattle.gt_model.proofs.Observers.{IsKeyed, mapping-keyed, leg-keyed}
 use Rattle.gt_model.specs.declared.held.AccessPath.TheVariants.{Own}
-use Rattle.gt_model.specs.Path.{place_of}
+use Rattle.gt_model.specs.Path.{end_spot}
 use Rattle.gt_model.specs.Justified.{AccessIsJustified}
 use Rattle.gt_core.{specs.Standing.LetsUse}
 
@@ -137,7 +137,7 @@ via-may : (k : CallerKnowledge) (pair : DomId × DomId) (dom : DomId) → via_ju
 via-may k pair dom e = grind arith
 
 reached-frame : (s : Setting) (h : History) (d : DomId) (granted : Bool) (end : End) (dir : Dir) (len : ℕ) (pair : DomId → DomId × DomId) (access_path : AccessPath) → IsReached (known_at s h d) d granted end dir len pair access_path → end.offset + len ≤ FRAME_SIZE
-    → IsInFrame s (place_of d end access_path) len
+    → IsInFrame s (end_spot d end access_path) len
 reached-frame s h d granted end dir len pair access_path a range = grind arith
 
 reaches-by : (s : Setting) (h : History) (d judged : DomId) (dir : Dir) (off len : ℕ) (p : HeldPin) (q : Pin) → IsPermitted (known_at s h d) p judged dir off len → IsOwnPin d p q
@@ -152,10 +152,10 @@ HasAccessPath legs (Through via p) = IsHeldIn via legs × IsHeldIn p legs
 
 end-justified : (s : Setting) (h : History) (d : DomId) (granted : Bool) (end : End) (dir : Dir) (len : ℕ) (pair : DomId → DomId × DomId) (owners : DomId × DomId) (access_path : AccessPath) → HasAccessPath (legs_at h d.0) access_path
     → IsReached (known_at s h d) d granted end dir len pair access_path → ((p : HeldPin) (via : HeldPin) → access_path ≡ Through via p → pair p.dom ≡ owners)
-    → EndIsJustified s h d granted dir (place_of d end access_path) len (resolved d end.domid) owners
+    → EndIsJustified s h d granted dir (end_spot d end access_path) len (resolved d end.domid) owners
 end-justified s h d granted end dir len pair owners Own has a same = inl (a.0, refl)
 end-justified s h d granted end dir len pair owners (Direct p) has a same =
-    inr (inl (a.0, a.1, any-map (IsOwnPin d p) (Reaches d d dir uses.Copy (place_of d end (Direct p)) len) (live h) (λ q own. reaches-by s h d d dir end.offset len p q a.2 own) (leg-pin h d p has)))
+    inr (inl (a.0, a.1, any-map (IsOwnPin d p) (Reaches d d dir uses.Copy (end_spot d end (Direct p)) len) (live h) (λ q own. reaches-by s h d d dir end.offset len p q a.2 own) (leg-pin h d p has)))
 end-justified s h d granted end dir len pair owners (Through via p) has a same = inr (inr (
   a.0,
   any-map (IsOwnPin d p) _ (live h)
@@ -183,7 +183,7 @@ pub copy-justified : (s : Setting) (h : History) (d : DomId) (r : OpenRequest) (
     → RestsOnWays (known_at s h d) d r pins from to len → CopyIsJustified s h d r from to len
 copy-justified s h d r pins from to len none legs a = let k = known_at s h d in let c = a.copy in
     let has = subst (λ (l : List (ℕ × HeldPin)). HasAccessPath l pins.source × HasAccessPath l pins.dest) (sym legs) (access_paths-held pins.source pins.dest) in let o = opens k d (Copy c) (none-of k d r (Copy c) a.of_copy none) in
-    let f = place_of d c.source pins.source in let t = place_of d c.dest pins.dest in
+    let f = end_spot d c.source pins.source in let t = end_spot d c.dest pins.dest in
     let fits : CopyIsJustified s h d (Copy c) f t c.len = (
       reached-frame s h d (is_source_granted c) c.source Read c.len (source_pair d c) pins.source a.source_reached o.source_range,
       reached-frame s h d (is_dest_granted c) c.dest Write c.len (dest_pair d pins.source) pins.dest a.dest_reached o.dest_range,

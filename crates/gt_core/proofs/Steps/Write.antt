@@ -24,7 +24,7 @@ use Rattle.gt_core.proofs.{Steps.Access.mapping-pin, Steps.Access.same-held, Ste
 use Rattle.gt_core.proofs.{Steps.Access.copy-justified}
 use Rattle.gt_model.proofs.Observers.{stepped}
 use Rattle.gt_model.specs.declared.held.AccessPath.TheVariants.{Own}
-use Rattle.gt_model.specs.Path.{place_of}
+use Rattle.gt_model.specs.Path.{end_spot}
 use Rattle.std.specs.Cmp.{both_ways}
 
 -- what a frame holds, and which frames exist
@@ -54,7 +54,7 @@ map-writes e d frame off len is a = grind arith
 
 -- the entries of a copy's pins permit it to write
 way-covers : (k : CallerKnowledge) (d : DomId) (granted : Bool) (end : End) (len : ℕ) (pair : DomId → DomId × DomId) (access_path : AccessPath) → IsReached k d granted end Write len pair access_path
-    → suffices (basis_of access_path) d (place_of d end access_path).frame.owner (place_of d end access_path).frame.number end.offset len ≡ true
+    → suffices (basis_of access_path) d (end_spot d end access_path).frame.owner (end_spot d end access_path).frame.number end.offset len ≡ true
 way-covers k d granted end len pair access_path a = grind arith
 
 -- the access path of a call, which suffices, is that of its writ
@@ -102,7 +102,7 @@ open-admitted s h xs fs x o c st fr a call here = subst (λ (z : Call). IsAdmitt
   copies : (from to : Spot) (len : ℕ) → begun k x.id c.request ≡ None → RestsOnWays k x.id c.request (pins_at here.phase) from to len → IsAdmitted fs x now (call_steps.Copy from to len)
   copies from to len none w = let c' = w.copy in let pins = pins_at here.phase in
       let inside = subst (λ (q : OpenRequest). CopyIsJustified s h x.id q from to len) w.of_copy (copy-justified s h x.id c.request pins from to len none here.held w) in
-      let t = place_of x.id c'.dest pins.dest in
+      let t = end_spot x.id c'.dest pins.dest in
       let right : suffices (basis_of pins.dest) x.id t.frame.owner t.frame.number t.off c'.len ≡ true = way-covers k x.id (is_dest_granted c') c'.dest c'.len (dest_pair x.id pins.source) pins.dest w.dest_reached in
       let right_to : suffices (basis_of pins.dest) x.id to.frame.owner to.frame.number to.off len ≡ true = subst (λ (z : Spot). suffices (basis_of pins.dest) x.id z.frame.owner z.frame.number z.off len ≡ true) (sym w.to_is)
       (subst (λ (n : ℕ). suffices (basis_of pins.dest) x.id t.frame.owner t.frame.number t.off n ≡ true) (sym w.len_is) right) in

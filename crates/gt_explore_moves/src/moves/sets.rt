@@ -335,12 +335,14 @@ impl<'s, 'a> SearchContext<'s, 'a> {
         some
     }
 
-    // Returns the flags that stay shut until a domain of the set moves.
-    fn shut_by(&self, world: &SearchState<'a>, inside: &[bool]) -> Result<Vec<bool>, AllocError> {
-        let mut shut = Vec::new(self.alloc);
-        for is_told in world.told.as_slice() {
-            shut.push(!*is_told)?;
-        }
+    // Returns those of the unraised flags that stay shut until a domain of the set moves.
+    fn shut_by(
+        &self,
+        world: &SearchState<'a>,
+        inside: &[bool],
+        unraised: &[bool],
+    ) -> Result<Vec<bool>, AllocError> {
+        let mut shut = Vec::from_slice(self.alloc, unraised)?;
         for _round in 0..shut.len() {
             if !self.open_flags(world, inside, &mut shut) {
                 return Ok(shut);
@@ -369,11 +371,12 @@ impl<'s, 'a> SearchContext<'s, 'a> {
         world: &SearchState<'a>,
         place: usize,
         most: usize,
+        unraised: &[bool],
     ) -> Result<Option<LoneSet>, AllocError> {
         let mut inside = vec![in self.alloc; false; world.actors.len()]?;
         put_in(&mut inside, place);
         for _size in 1..most {
-            let shut = self.shut_by(world, inside.as_slice())?;
+            let shut = self.shut_by(world, inside.as_slice(), unraised)?;
             match self.who_disturbs(world, inside.as_slice(), shut.as_slice()) {
                 Some(other) => put_in(&mut inside, other),
                 None => return Ok(Some(LoneSet { inside, shut })),
@@ -391,6 +394,10 @@ impl<'s, 'a> SearchContext<'s, 'a> {
     // Returns the smallest of the sets that grow from a domain that can move.
     pub(super) fn smallest_set(&self, world: &SearchState<'a>) -> Result<LoneSet, AllocError> {
         let told = world.told.as_slice();
+        let mut unraised = Vec::from_slice(self.alloc, told)?;
+        for is_unraised in unraised.iter_mut() {
+            *is_unraised = !*is_unraised;
+        }
         let mut smallest = LoneSet {
             inside: Vec::new(self.alloc),
             shut: Vec::new(self.alloc),
@@ -398,7 +405,7 @@ impl<'s, 'a> SearchContext<'s, 'a> {
         let mut most = world.actors.len().saturating_add(1);
         for (place, actor) in world.actors.as_slice().iter().enumerate() {
             if most > 1 && self.can_move(told, place, actor) {
-                if let Some(grown) = self.set_from(world, place, most)? {
+                if let Some(grown) = self.set_from(world, place, most, unraised.as_slice())? {
                     most = size_of(grown.inside.as_slice());
                     smallest = grown;
                 }

@@ -29,7 +29,7 @@ impl<P: Drop> Explorer<P> {
     }
 
     // Returns the index of this list among those of a node. The index `likely` is tried first.
-    fn place_of(&self, node: usize, list: u32, likely: usize) -> Option<usize> {
+    fn list_place(&self, node: usize, list: u32, likely: usize) -> Option<usize> {
         let lists = self.sets.get(self.nodes.get(node)?.set as usize)?;
         if lists.get(likely) == Some(&list) {
             return Some(likely);
@@ -53,7 +53,7 @@ impl<P: Drop> Explorer<P> {
     ) -> Result<Option<Onward>, AllocError> {
         for turn in self.tried_at(node) {
             if let Some(list) = self.suffixes.shorter(list, turn.line(), scratch)? {
-                if let Some(at) = self.place_of(turn.node as usize, list, at) {
+                if let Some(at) = self.list_place(turn.node as usize, list, at) {
                     let turn = *turn;
                     return Ok(Some(Onward { turn, list, at }));
                 }

@@ -6,10 +6,10 @@ ghost use Rattle.gt_file_commands.specs.FlowAnswers.{FlowsOf, WritesFlow};
 ghost use Rattle.gt_fault_reasons.specs.Blocks.{policy_block};
 ghost use Rattle.gt_file_commands.specs.FlowBlocks.{FlowedAs, FlowedBlock};
 
-use crate::flows::fault::FlowFault;
 use gt_fault_reasons::policy_block;
 use gt_policy_list::{ListingFault, policy_text};
 use gt_policy_questions::{FlowAnswer, FlowQuestion, FlowReport, flow};
+use gt_policy_reasons::FlowFault;
 use gt_text::{finish, read_text};
 use std::alloc::Global;
 use std::io::{Read, Write};

@@ -3,7 +3,7 @@ ghost use Rattle.std.specs.Prelude.{◌≡◌, ◌+◌, ◌≤◌, length, IfOk,
 ghost use Rattle.gt_types.specs.declared.Dir.TheVariants as dirs;
 ghost use Rattle.gt_types.specs.declared.Use.TheVariants as uses;
 ghost use Rattle.gt_words.specs.Conditions.{IsSameSeat, IsSeatOf};
-ghost use Rattle.gt_access.specs.AccessPaths.{MayAccessBy, ReachesBy};
+ghost use Rattle.gt_live.specs.AccessPaths.{MayAccessBy, ReachesBy};
 ghost use Rattle.gt_model.specs.declared.request.Request.TheVariants as requests;
 ghost use Rattle.gt_live.specs.Accesses.{FillsBuffer, IsIfMissing, IsOfAccess, IsOfMissing, IsReadBy, IsWrittenBy};
 ghost use Rattle.gt_live.specs.Accesses.{ReadsFrame, WritesFrame};
@@ -12,12 +12,12 @@ ghost use Rattle.gt_live.specs.Driving.{IsSame};
 ghost use Rattle.gt_live.specs.Parts.{words_of};
 
 use super::{Domain, refusal_of};
+use crate::accesses::{Access, writ_by};
 use crate::monitor::Monitor;
-use gt_access::{Access, AccessContext, AccessFault, read_under, write_under};
 use gt_calls::{AccessPath, Handle, judge_load, judge_own_access, judge_store};
 use gt_frames::{Filled, Read, Written};
 use gt_types::{Allows, Denial, FRAME_SIZE, Facts, FrameName, Rule, Spot};
-use gt_words::Seat;
+use gt_words::{AccessFault, FrameWrite, Seat};
 use std::alloc::Global;
 use std::sync::Wait;
 
@@ -31,20 +31,8 @@ pub(super) fn not_made(refused: AccessFault) -> Denial
     }
 }
 
-// Lends what the accesses of a monitor's domains need.
-pub(super) fn run_of<P: Allows>(monitor: &Monitor<P>) -> AccessContext<'_, P>
-    ensures words { result.words.now ≡ monitor.now.words }
-    ensures config { result.config.now ≡ monitor.now.config }
-    ensures rights { result.rights.now ≡ monitor.now.rights }
-{
-    AccessContext {
-        words: &monitor.words,
-        config: &monitor.config,
-        rights: &monitor.rights,
-    }
-}
-
-// Reads bytes of the frame that this access reaches into all of `out`.
+// Reads bytes of the frame that this access reaches into all of `out`. Like the functions below it requires that the
+// pins of the access path are in the view of the seat and justify the range, and that the policy allows the access.
 #[inline(always)]
 #[tactic(auto, using(crate::proofs::Making::accessed_same, crate::proofs::Making::viewed_same))]
 fn fill_through<R: Wait, P: Allows>(
@@ -69,8 +57,8 @@ fn fill_through<R: Wait, P: Allows>(
     ensures same { IsSame seat.old.view seat.new.view }
     ensures filled { FillsBuffer result out.old out.new }
 {
-    let run = run_of(monitor);
-    match read_under(rt, &run, seat, access, out) {
+    let Spot { frame, off } = access.at;
+    match monitor.words.read_frame(rt, seat, frame, off, out) {
         Some(filled) => Ok(filled),
         None => Err(not_made(AccessFault::Gone)),
     }
@@ -108,8 +96,8 @@ fn read_through<R: Wait, P: Allows>(
     }
 }
 
-// Writes bytes to the frame that this access reaches.
-#[tactic(auto, using(crate::proofs::Making::accessed_same, crate::proofs::Making::viewed_same))]
+// Writes bytes to the frame that this access reaches, by the writ of its access path.
+#[tactic(auto, using(crate::proofs::Covering::covers_by, crate::proofs::Making::accessed_same, crate::proofs::Making::viewed_same))]
 fn write_through<'a, R: Wait, P: Allows>(
     rt: &R,
     monitor: &Monitor<P>,
@@ -131,8 +119,14 @@ fn write_through<'a, R: Wait, P: Allows>(
     ensures unmade { OnErr result (seat.new.view ≡ seat.old.view) }
     ensures same { IsSame seat.old.view seat.new.view }
 {
-    let run = run_of(monitor);
-    match write_under(rt, &run, seat, access, bytes) {
+    let Spot { frame, off } = access.at;
+    let writ = writ_by(seat.dom(), access.access_path);
+    let write = FrameWrite {
+        writ: &writ,
+        off,
+        bytes,
+    };
+    match monitor.words.write_frame(rt, seat, frame, write) {
         Ok(written) => Ok(written),
         Err(refused) => Err(not_made(refused)),
     }

@@ -5,7 +5,7 @@ ghost use Rattle.gt_types.specs.declared.Dir.TheVariants as dirs;
 ghost use Rattle.gt_types.specs.declared.Use.TheVariants as uses;
 ghost use Rattle.gt_words.specs.Conditions.{IsSameSeat, IsSeatOf};
 ghost use Rattle.gt_word_history.specs.declared.view.View.{View};
-ghost use Rattle.gt_access.specs.AccessPaths.{MayCopyBy, ReachesBy};
+ghost use Rattle.gt_live.specs.AccessPaths.{MayCopyBy, ReachesBy};
 ghost use Rattle.gt_audit.specs.Trails.{AppendsRecord};
 ghost use Rattle.gt_model.specs.declared.action.CallResult.TheVariants.{Refused};
 ghost use Rattle.gt_model.specs.declared.request.Request.TheVariants as requests;
@@ -22,20 +22,21 @@ ghost use Rattle.gt_live.specs.Releasing.{CopyLeaves, PendingLeaves};
 ghost use Rattle.gt_live.specs.Underway.{AreOfRun, GivesBack, HasTaken};
 ghost use Rattle.gt_live.specs.Parts.{copy_at_access, seat_of, trail_of, words_of};
 
-use super::bytes::{not_made, run_of};
+use super::bytes::not_made;
 use super::{Domain, known_with, record_done, record_refusal, refusal_of};
 use crate::access_paths::{CopyBy, CopyWords, drive_copy, give_back};
+use crate::accesses::{CopyAccess, writ_by};
 use crate::monitor::Monitor;
-use gt_access::{CopyAccess, copy_under};
 use gt_audit::{Hypercall, Record, Reply, Trail};
-use gt_calls::{AccessPath, CallPins, CallResult, CopyArgs, End, Spot, judge_copy, place_of};
+use gt_calls::{AccessPath, CallPins, CallResult, CopyArgs, End, Spot, end_spot, judge_copy};
 use gt_frames::Copied;
-use gt_types::{Allows, Denial, DomId, FRAME_SIZE};
-use gt_words::Seat;
+use gt_types::{Allows, Denial, DomId, FRAME_SIZE, Range};
+use gt_words::{FrameCopy, Seat};
 use std::sync::Wait;
 
-// Copies between the positions that the access paths of the access reach.
-#[tactic(auto, using(crate::proofs::Making::accessed_same, crate::proofs::Making::viewed_same))]
+// Copies between the positions that the access paths of the access reach, by the writ of the access path to the
+// destination.
+#[tactic(auto, using(crate::proofs::Covering::covers_by, crate::proofs::Making::accessed_same, crate::proofs::Making::viewed_same))]
 #[inline(always)]
 fn copy_through<R: Wait, P: Allows>(
     rt: &R,
@@ -60,8 +61,22 @@ fn copy_through<R: Wait, P: Allows>(
     ensures unmade { OnErr result (seat.new.view ≡ seat.old.view) }
     ensures same { IsSame seat.old.view seat.new.view }
 {
-    let run = run_of(monitor);
-    match copy_under(rt, &run, seat, access) {
+    let CopyAccess {
+        access_paths,
+        from,
+        to,
+        len,
+    } = *access;
+    let writ = writ_by(seat.dom(), &access_paths.dest);
+    let copy = FrameCopy {
+        writ: &writ,
+        range: Range { off: from.off, len },
+        to_off: to.off,
+    };
+    match monitor
+        .words
+        .copy_frames(rt, seat, from.frame, to.frame, copy)
+    {
         Ok(copied) => Ok(copied),
         Err(refused) => Err(not_made(refused)),
     }
@@ -103,7 +118,7 @@ impl PendingCopy {
     pub fn from(&self) -> Spot
         ensures { result ≡ pending_from self.now }
     {
-        place_of(self.caller, self.copy.source, self.pins.source)
+        end_spot(self.caller, self.copy.source, self.pins.source)
     }
 
     /// Returns the place where bytes may be written.
@@ -111,7 +126,7 @@ impl PendingCopy {
     pub fn to(&self) -> Spot
         ensures { result ≡ pending_to self.now }
     {
-        place_of(self.caller, self.copy.dest, self.pins.dest)
+        end_spot(self.caller, self.copy.dest, self.pins.dest)
     }
 
     /// Returns the number of bytes.
@@ -228,8 +243,8 @@ impl Domain {
             Err(denial) => return Err(denial),
         }
         let caller = self.seat.dom();
-        let from = place_of(caller, copy.source, pins.source);
-        let to = place_of(caller, copy.dest, pins.dest);
+        let from = end_spot(caller, copy.source, pins.source);
+        let to = end_spot(caller, copy.dest, pins.dest);
         let access = CopyAccess {
             access_paths: &pins,
             from,
@@ -268,8 +283,8 @@ impl Domain {
             Err(denial) => return Err(denial),
         }
         let caller = self.seat.dom();
-        let from = place_of(caller, copy.source, pins.source);
-        let to = place_of(caller, copy.dest, pins.dest);
+        let from = end_spot(caller, copy.source, pins.source);
+        let to = end_spot(caller, copy.dest, pins.dest);
         let home = CopyAccess {
             access_paths: &pins,
             from,

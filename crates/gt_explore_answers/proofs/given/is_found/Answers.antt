@@ -9,12 +9,12 @@ use Rattle.gt_explore_answers.proofs.given.is_found.Goals as goal
 
 pub returns-in-Some : goal.returns-in-Some
 returns-in-Some c =
-    let place : c.place_of.result ≡ index_of_text c.args.text.now (found_from c.args.found.now).texts =
-    (rw c.as_slice.ensures.value at c.place_of.ensures.place) ∙ position_map (λ t. bytes_eq t c.args.text.now) (λ (o : FoundText). o.text.items) c.args.found.now.texts.items in
+    let place : c.text_place.result ≡ index_of_text c.args.text.now (found_from c.args.found.now).texts =
+    (rw c.as_slice.ensures.value at c.text_place.ensures.place) ∙ position_map (λ t. bytes_eq t c.args.text.now) (λ (o : FoundText). o.text.items) c.args.found.now.texts.items in
     sym (ap (λ (o : Option ℕ). is_some o) (sym place ∙ c.in-Some.is))
 
 pub returns-in-None : goal.returns-in-None
 returns-in-None c =
-    let place : c.place_of.result ≡ index_of_text c.args.text.now (found_from c.args.found.now).texts =
-    (rw c.as_slice.ensures.value at c.place_of.ensures.place) ∙ position_map (λ t. bytes_eq t c.args.text.now) (λ (o : FoundText). o.text.items) c.args.found.now.texts.items in
+    let place : c.text_place.result ≡ index_of_text c.args.text.now (found_from c.args.found.now).texts =
+    (rw c.as_slice.ensures.value at c.text_place.ensures.place) ∙ position_map (λ t. bytes_eq t c.args.text.now) (λ (o : FoundText). o.text.items) c.args.found.now.texts.items in
     sym (ap (λ (o : Option ℕ). is_some o) (sym place ∙ c.in-None.is))

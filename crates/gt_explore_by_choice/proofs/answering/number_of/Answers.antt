@@ -15,8 +15,8 @@ use Rattle.gt_explore_by_choice.proofs.answering.number_of.Goals as goal
 pub returns : goal.returns
 returns c = λ source are.
     let f = found_from c.args.found.now in
-    let place : c.place_of-place.result ≡ index_of_text c.args.given.now f.texts =
-    (rw c.as_slice.ensures.value at c.place_of-place.ensures.place) ∙ position_map (λ t. bytes_eq t c.args.given.now) (λ (o : FoundText). o.text.items) c.args.found.now.texts.items in
+    let place : c.text_place-place.result ≡ index_of_text c.args.given.now f.texts =
+    (rw c.as_slice.ensures.value at c.text_place-place.ensures.place) ∙ position_map (λ t. bytes_eq t c.args.given.now) (λ (o : FoundText). o.text.items) c.args.found.now.texts.items in
     let verdict : c.verdict_on-verdict.result ≡ verdict_at Find (is_some (index_of_text c.args.given.now f.texts)) f.whole =
     c.verdict_on-verdict.ensures ∙ ap (λ (o : Option ℕ). verdict_at Find (is_some o) f.whole) place in record {
       is = verdict;

@@ -6,5 +6,5 @@ use Rattle.gt_explore_moments.proofs.exploring.moment_answer.Goals as goal
 
 pub returns : goal.returns
 returns c =
-    commented_so (contents_of c.args.script.now.head) (claim_asked c.args.claim.now) c.args.words.now c.args.states c.as_slice.result.now c.moment_script.result
+    commented_so (contents_of c.args.script.now.head) (claim_asked c.args.claim.now) c.args.words.now c.args.found.now.states c.as_slice.result.now c.moment_script.result
     (c.as_slice.ensures.value ∙ c.in_ok-comment.ensures) c.moment_script.ensures

@@ -7,4 +7,4 @@ use Rattle.gt_explore_tracing.proofs.answering.trace_made.Goals as goal
 
 pub returns-in-Json : goal.returns-in-Json
 returns-in-Json c =
-    subst (λ (f : ExploreFormat). IfOk c.objects_made.result (λ made. IsTraceBy (run_contents c.args.script.now) c.args.limit c.args.number f (found_from c.args.found.now) made.text.items made.verdict)) (sym c.in-Json.is) c.objects_made.ensures
+    subst (λ (f : ExploreFormat). IfOk c.objects_made.result (λ made. IsTraceBy (run_contents c.args.script.now) c.args.asked.now.states c.args.number f (found_from c.args.found.now) made.text.items made.verdict)) (sym c.in-Json.is) c.objects_made.ensures

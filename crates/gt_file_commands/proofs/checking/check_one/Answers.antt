@@ -1,5 +1,5 @@
 use Rattle.std.specs.Option.{option_map}
-use Rattle.gt_file_commands.specs.Names.{shown_name}
+use Rattle.gt_command_reasons.specs.Names.{shown_name}
 use Rattle.gt_file_commands.specs.Working.{Checks}
 use Rattle.gt_file_commands.proofs.Worked.{checked_one}
 use Rattle.gt_file_commands.proofs.checking.check_one.Goals as goal

@@ -12,13 +12,13 @@ pub returns-in-Sub : goal.returns-in-Sub
 returns-in-Sub c =
     let kind = ap (λ (x : Control). x.kind) (sym c.unpack.ensures.holds) ∙ c.in-Sub.is in
     record {
-      seat = same_seat-then _ _ _ c.look_at_body_word-first.ensures.seat c.look_at_body_word-second.ensures.seat;
+      seat = same_seat-then _ _ _ c.load_body_at-first.ensures.seat c.load_body_at-second.ensures.seat;
       read = (
-        c.look_at_body_word-first.new.seat.view,
-        c.look_at_body_word-first.ensures.made,
-        subst (λ (b : Bool). ReadsSecond b c.args.words.now.layout c.args.leg.now c.look_at_body_word-second.result
-            c.look_at_body_word-first.new.seat.view c.look_at_body_word-second.new.seat.view)
-            (sym (ap (λ (x : EntryKind). is_kind x Sub) kind)) c.look_at_body_word-second.ensures.made,
+        c.load_body_at-first.new.seat.view,
+        c.load_body_at-first.ensures.look,
+        subst (λ (b : Bool). ReadsSecond b c.args.words.now.layout c.args.leg.now c.load_body_at-second.result
+            c.load_body_at-first.new.seat.view c.load_body_at-second.new.seat.view)
+            (sym (ap (λ (x : EntryKind). is_kind x Sub) kind)) c.load_body_at-second.ensures.look,
       );
     }
 
@@ -27,12 +27,12 @@ returns-in_default c =
     let kind = ap (λ (x : Control). is_kind x.kind Sub) (sym c.unpack.ensures.holds)
     ∙ no-sub c.unpack.result.kind c.in_default.not-Sub in
     record {
-      seat = c.look_at_body_word-first.ensures.seat;
+      seat = c.load_body_at-first.ensures.seat;
       read = (
-        c.look_at_body_word-first.new.seat.view,
-        c.look_at_body_word-first.ensures.made,
+        c.load_body_at-first.new.seat.view,
+        c.load_body_at-first.ensures.look,
         subst (λ (b : Bool). ReadsSecond b c.args.words.now.layout c.args.leg.now 0
-            c.look_at_body_word-first.new.seat.view c.look_at_body_word-first.new.seat.view)
+            c.load_body_at-first.new.seat.view c.load_body_at-first.new.seat.view)
             (sym kind) (refl, refl),
       );
     }

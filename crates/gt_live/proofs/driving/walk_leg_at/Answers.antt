@@ -12,80 +12,91 @@ use Rattle.gt_live.specs.Legs.{WalksLeg}
 use Rattle.gt_live.specs.Walks.{Made}
 use Rattle.gt_words.specs.Conditions.{IsSameSeat, position_at}
 use Rattle.gt_live.proofs.Making.{same_seat-then, still_seat}
+use Rattle.gt_live.proofs.Legs.{control-made}
 use Rattle.gt_live.proofs.Legs.{header-passes, header-refuses, last-miss, look-refuses, looked, next-try, pin-missed}
 use Rattle.gt_live.proofs.Legs.{relook-missed, relook-refuses, tried, walk-begins, walk-on, walk-to}
 use Rattle.gt_live.proofs.driving.walk_leg_at.Goals as goal
 use Rattle.gt_live.proofs.driving.walk_leg_at.Goals.{in-Some-judge_words+else-found-word, in-None+in-Err}
 
-pub leg_header-header-requires-clause-can : goal.leg_header-header-requires-clause-can
-leg_header-header-requires-clause-can c =
+pub load_header_at-header-requires-clause-domain : goal.load_header_at-header-requires-clause-domain
+load_header_at-header-requires-clause-domain c =
     let k = c.args.words.now.layout in let v = c.args.seat.now.view in let leg = c.args.leg.now in
     c.requires.can Header v (walk-begins k leg v)
 
 pub returns-then-not-has_entry : goal.returns-then-not-has_entry
 returns-then-not-has_entry c =
     let k = c.args.words.now.layout in let v = c.args.seat.now.view in let leg = c.args.leg.now in
-    let seen = c.leg_header-header in
+    let seen = c.load_header_at-header in
     record {
       seat = seen.ensures.seat;
       walked = walk-to k leg v _ (Refused c.header_refusal.result) seen.new.seat.view
           (header-refuses leg seen.result c.has_entry.result c.header_refusal.result c.has_entry.ensures
           c.if-not-has_entry.true c.header_refusal.ensures)
-          (walk-on k leg v Header (Word seen.result) v seen.new.seat.view (walk-begins k leg v) seen.ensures.made);
+          (walk-on k leg v Header (Word seen.result) v seen.new.seat.view (walk-begins k leg v) seen.ensures.look);
     }
 
 pub tries-init : goal.tries-init
 tries-init c =
     let k = c.args.words.now.layout in let v = c.args.seat.now.view in let leg = c.args.leg.now in
-    let seen = c.leg_header-header in
+    let seen = c.load_header_at-header in
     record {
       seat = still_seat c.args.words.now _ _ c.requires.seat seen.ensures.seat;
       same = seen.ensures.seat;
       going = walk-to k leg v _ _ seen.new.seat.view
           (header-passes leg seen.result c.has_entry.result c.has_entry.ensures c.if-not-has_entry.false)
-          (walk-on k leg v Header (Word seen.result) v seen.new.seat.view (walk-begins k leg v) seen.ensures.made);
+          (walk-on k leg v Header (Word seen.result) v seen.new.seat.view (walk-begins k leg v) seen.ensures.look);
     }
 
-pub leg_control-word-requires-clause-can : goal.leg_control-word-requires-clause-can
-leg_control-word-requires-clause-can c =
+pub load_control_at-word-requires-clause-entry : goal.load_control_at-word-requires-clause-entry
+load_control_at-word-requires-clause-entry c =
     c.requires.can (Look c.tries.more) c.tries.seat.view c.tries.invariant.going
 
 pub returns-in-Some : goal.returns-in-Some
 returns-in-Some c =
     let k = c.args.words.now.layout in let v = c.args.seat.now.view in let leg = c.args.leg.now in
-    let word = c.leg_control-word in
+    let word = c.load_control_at-word in
+    let made = control-made c.args.words.now leg word.result c.tries.seat word.new.seat.view c.tries.invariant.seat
+    word.ensures.look word.ensures.own in
     record {
       seat = same_seat-then _ _ _ c.tries.invariant.same word.ensures.seat;
       walked = walk-to k leg v _ (Refused c.entry_refusal.result) word.new.seat.view
           (look-refuses leg c.tries.more word.result c.judge_control.result _ c.in-Some.rule c.entry_refusal.result
           c.judge_control.ensures c.in-Some.is c.entry_refusal.ensures)
           (walk-on k leg v (Look c.tries.more) (Word word.result) c.tries.seat.view word.new.seat.view
-          c.tries.invariant.going word.ensures.made);
+          c.tries.invariant.going made);
     }
 
 pub look_at_body-body-requires-clause-can : goal.look_at_body-body-requires-clause-can
 look_at_body-body-requires-clause-can c =
     let k = c.args.words.now.layout in let v = c.args.seat.now.view in let leg = c.args.leg.now in
-    let word = c.leg_control-word in
+    let word = c.load_control_at-word in
+    let made = control-made c.args.words.now leg word.result c.tries.seat word.new.seat.view c.tries.invariant.seat
+    word.ensures.look word.ensures.own in
     c.requires.can (Body c.tries.more word.result) word.new.seat.view
     (looked k leg v c.tries.more word.result c.judge_control.result c.tries.seat.view word.new.seat.view
-    c.tries.invariant.going word.ensures.made c.judge_control.ensures c.in_default.is)
+    c.tries.invariant.going made c.judge_control.ensures c.in_default.is)
 
-pub leg_control-found-requires-clause-can : goal.leg_control-found-requires-clause-can
-leg_control-found-requires-clause-can c =
+pub load_control_at-found-requires-clause-entry : goal.load_control_at-found-requires-clause-entry
+load_control_at-found-requires-clause-entry c =
     let k = c.args.words.now.layout in let v = c.args.seat.now.view in let leg = c.args.leg.now in
-    let word = c.leg_control-word in let body = c.look_at_body-body in let rule = c.in-Some-judge_words.rule in
+    let word = c.load_control_at-word in
+    let made = control-made c.args.words.now leg word.result c.tries.seat word.new.seat.view c.tries.invariant.seat
+    word.ensures.look word.ensures.own in
+    let body = c.look_at_body-body in let rule = c.in-Some-judge_words.rule in
     c.requires.can (Relook c.tries.more word.result rule) body.new.seat.view
     (tried k leg v c.tries.more word.result body.result.first body.result.second c.judge_control.result
     c.judge_words.result (Some rule) c.tries.seat.view word.new.seat.view body.new.seat.view c.tries.invariant.going
-    word.ensures.made c.judge_control.ensures c.in_default.is body.ensures.read c.judge_words.ensures
+    made c.judge_control.ensures c.in_default.is body.ensures.read c.judge_words.ensures
     c.in-Some-judge_words.is)
 
 pub returns-then-found-word : goal.returns-then-found-word
 returns-then-found-word c =
     let k = c.args.words.now.layout in let v = c.args.seat.now.view in let leg = c.args.leg.now in
-    let word = c.leg_control-word in let body = c.look_at_body-body in let rule = c.in-Some-judge_words.rule in
-    let found = c.leg_control-found in
+    let word = c.load_control_at-word in
+    let made = control-made c.args.words.now leg word.result c.tries.seat word.new.seat.view c.tries.invariant.seat
+    word.ensures.look word.ensures.own in
+    let body = c.look_at_body-body in let rule = c.in-Some-judge_words.rule in
+    let found = c.load_control_at-found in
     record {
       seat = same_seat-then _ _ _ (same_seat-then _ _ _ (same_seat-then _ _ _ c.tries.invariant.same word.ensures.seat)
           body.ensures.seat) found.ensures.seat;
@@ -96,25 +107,32 @@ returns-then-found-word c =
           found.new.seat.view
           (tried k leg v c.tries.more word.result body.result.first body.result.second c.judge_control.result
           c.judge_words.result (Some rule) c.tries.seat.view word.new.seat.view body.new.seat.view
-          c.tries.invariant.going word.ensures.made c.judge_control.ensures c.in_default.is body.ensures.read
+          c.tries.invariant.going made c.judge_control.ensures c.in_default.is body.ensures.read
           c.judge_words.ensures c.in-Some-judge_words.is)
-          found.ensures.made);
+          (control-made c.args.words.now leg found.result body.new.seat found.new.seat.view
+          (still_seat c.args.words.now _ _ word.ensures.fits body.ensures.seat) found.ensures.look found.ensures.own));
     }
 
 pub take_pin-requires-clause-can : goal.take_pin-requires-clause-can
 take_pin-requires-clause-can c =
     let k = c.args.words.now.layout in let v = c.args.seat.now.view in let leg = c.args.leg.now in
-    let word = c.leg_control-word in let body = c.look_at_body-body in
+    let word = c.load_control_at-word in
+    let made = control-made c.args.words.now leg word.result c.tries.seat word.new.seat.view c.tries.invariant.seat
+    word.ensures.look word.ensures.own in
+    let body = c.look_at_body-body in
     subst (λ (p : HeldPin). CanMake k body.new.seat.view (Pin p)) (sym c.pinned-held.ensures)
     (c.requires.can (Pinning c.tries.more word.result body.result.first body.result.second) body.new.seat.view
     (tried k leg v c.tries.more word.result body.result.first body.result.second c.judge_control.result
     c.judge_words.result None c.tries.seat.view word.new.seat.view body.new.seat.view c.tries.invariant.going
-    word.ensures.made c.judge_control.ensures c.in_default.is body.ensures.read c.judge_words.ensures c.in-None.is))
+    made c.judge_control.ensures c.in_default.is body.ensures.read c.judge_words.ensures c.in-None.is))
 
 pub returns-in-Ok : goal.returns-in-Ok
 returns-in-Ok c =
     let k = c.args.words.now.layout in let v = c.args.seat.now.view in let leg = c.args.leg.now in
-    let word = c.leg_control-word in let body = c.look_at_body-body in let pin = c.take_pin in
+    let word = c.load_control_at-word in
+    let made = control-made c.args.words.now leg word.result c.tries.seat word.new.seat.view c.tries.invariant.seat
+    word.ensures.look word.ensures.own in
+    let body = c.look_at_body-body in let pin = c.take_pin in
     record {
       seat = same_seat-then _ _ _ (same_seat-then _ _ _ (same_seat-then _ _ _ c.tries.invariant.same word.ensures.seat)
           body.ensures.seat) pin.ensures.seat;
@@ -123,7 +141,7 @@ returns-in-Ok c =
           body.new.seat.view pin.new.seat.view
           (tried k leg v c.tries.more word.result body.result.first body.result.second c.judge_control.result
           c.judge_words.result None c.tries.seat.view word.new.seat.view body.new.seat.view c.tries.invariant.going
-          word.ensures.made c.judge_control.ensures c.in_default.is body.ensures.read c.judge_words.ensures
+          made c.judge_control.ensures c.in_default.is body.ensures.read c.judge_words.ensures
           c.in-None.is)
           (subst (λ (p : HeldPin). Made k (Pin p) Taken body.new.seat.view pin.new.seat.view) c.pinned-held.ensures
           c.in-Ok.ensures.made));
@@ -132,20 +150,27 @@ returns-in-Ok c =
 pub returns-then-more-eq0 : goal.returns-then-more-eq0
 returns-then-more-eq0 c =
     let k = c.args.words.now.layout in let v = c.args.seat.now.view in let leg = c.args.leg.now in
-    let word = c.leg_control-word in let body = c.look_at_body-body in
+    let word = c.load_control_at-word in
+    let made = control-made c.args.words.now leg word.result c.tries.seat word.new.seat.view c.tries.invariant.seat
+    word.ensures.look word.ensures.own in
+    let body = c.look_at_body-body in
     let here = same_seat-then _ _ _ (same_seat-then _ _ _ c.tries.invariant.same word.ensures.seat) body.ensures.seat in
     let words = λ (next : Option Rule) (is : c.judge_words.result ≡ next).
     tried k leg v c.tries.more word.result body.result.first body.result.second c.judge_control.result
     c.judge_words.result next c.tries.seat.view word.new.seat.view body.new.seat.view c.tries.invariant.going
-    word.ensures.made c.judge_control.ensures c.in_default.is body.ensures.read c.judge_words.ensures is in
+    made c.judge_control.ensures c.in_default.is body.ensures.read c.judge_words.ensures is in
     let missed : IsSameSeat c.args.seat.now c.match-judge_words.seat
     × WalksLeg k leg v (after_miss leg c.tries.more c.match-judge_words.found) c.match-judge_words.seat.view =
     elim c.match-judge_words.branch [
       | in-Some-judge_words+else-found-word w ↦ rw (w.seat-is, w.found-is) (
-        same_seat-then _ _ _ here w.leg_control-found.ensures.seat,
-        relook-missed k leg v c.tries.more word.result w.in-Some-judge_words.rule w.leg_control-found.result
-            body.new.seat.view w.leg_control-found.new.seat.view
-            (words (Some w.in-Some-judge_words.rule) w.in-Some-judge_words.is) w.leg_control-found.ensures.made
+        same_seat-then _ _ _ here w.load_control_at-found.ensures.seat,
+        relook-missed k leg v c.tries.more word.result w.in-Some-judge_words.rule w.load_control_at-found.result
+            body.new.seat.view w.load_control_at-found.new.seat.view
+            (words (Some w.in-Some-judge_words.rule) w.in-Some-judge_words.is)
+            (control-made c.args.words.now leg w.load_control_at-found.result body.new.seat
+            w.load_control_at-found.new.seat.view
+            (still_seat c.args.words.now _ _ word.ensures.fits body.ensures.seat) w.load_control_at-found.ensures.look
+            w.load_control_at-found.ensures.own)
             (ne_eqb _ _ w.if-found-word.false),
       )
       | in-None+in-Err w ↦ rw (w.seat-is, w.found-is) (
@@ -165,20 +190,27 @@ returns-then-more-eq0 c =
 pub tries-preserved : goal.tries-preserved
 tries-preserved c =
     let k = c.args.words.now.layout in let v = c.args.seat.now.view in let leg = c.args.leg.now in
-    let word = c.leg_control-word in let body = c.look_at_body-body in
+    let word = c.load_control_at-word in
+    let made = control-made c.args.words.now leg word.result c.tries.seat word.new.seat.view c.tries.invariant.seat
+    word.ensures.look word.ensures.own in
+    let body = c.look_at_body-body in
     let here = same_seat-then _ _ _ (same_seat-then _ _ _ c.tries.invariant.same word.ensures.seat) body.ensures.seat in
     let words = λ (next : Option Rule) (is : c.judge_words.result ≡ next).
     tried k leg v c.tries.more word.result body.result.first body.result.second c.judge_control.result
     c.judge_words.result next c.tries.seat.view word.new.seat.view body.new.seat.view c.tries.invariant.going
-    word.ensures.made c.judge_control.ensures c.in_default.is body.ensures.read c.judge_words.ensures is in
+    made c.judge_control.ensures c.in_default.is body.ensures.read c.judge_words.ensures is in
     let missed : IsSameSeat c.args.seat.now c.match-judge_words.seat
     × WalksLeg k leg v (after_miss leg c.tries.more c.match-judge_words.found) c.match-judge_words.seat.view =
     elim c.match-judge_words.branch [
       | in-Some-judge_words+else-found-word w ↦ rw (w.seat-is, w.found-is) (
-        same_seat-then _ _ _ here w.leg_control-found.ensures.seat,
-        relook-missed k leg v c.tries.more word.result w.in-Some-judge_words.rule w.leg_control-found.result
-            body.new.seat.view w.leg_control-found.new.seat.view
-            (words (Some w.in-Some-judge_words.rule) w.in-Some-judge_words.is) w.leg_control-found.ensures.made
+        same_seat-then _ _ _ here w.load_control_at-found.ensures.seat,
+        relook-missed k leg v c.tries.more word.result w.in-Some-judge_words.rule w.load_control_at-found.result
+            body.new.seat.view w.load_control_at-found.new.seat.view
+            (words (Some w.in-Some-judge_words.rule) w.in-Some-judge_words.is)
+            (control-made c.args.words.now leg w.load_control_at-found.result body.new.seat
+            w.load_control_at-found.new.seat.view
+            (still_seat c.args.words.now _ _ word.ensures.fits body.ensures.seat) w.load_control_at-found.ensures.look
+            w.load_control_at-found.ensures.own)
             (ne_eqb _ _ w.if-found-word.false),
       )
       | in-None+in-Err w ↦ rw (w.seat-is, w.found-is) (

@@ -30,8 +30,8 @@ returns-in-Answered-clause-stands g c =
     λ h st. let r = begin-answers s h xs c.args.dom c.in-Some.at x c.args.request c.in-Answered.verdict c.answer_of.result c.answer_of.ensures p c.index.ensures (ap (λ (o : Option OpenCall). is_some o) (sym c.underway.ensures) ∙ sym c.is_some.ensures ∙ c.if-is_some.false) opens st in
     ((r.0, (refl, refl), r.1), r.2)
 
-pub returns-in_ok-begin-in-Open-clause-stands : goal.returns-in_ok-begin-in-Open-clause-stands
-returns-in_ok-begin-in-Open-clause-stands g c =
+pub returns-in_ok-start_call-in-Open-clause-stands : goal.returns-in_ok-start_call-in-Open-clause-stands
+returns-in_ok-start_call-in-Open-clause-stands g c =
     let s = setting_by g.P.Allows.may c.args.self.now in let xs = c.args.self.now.domains.items in
     let p : position (has_id c.args.dom.0) xs ≡ Some c.in-Some.at = ap (λ (l : List State). position (has_id c.args.dom.0) l) (sym c.deref.ensures.value) ∙ sym c.find.ensures ∙ c.in-Some.is in
     let x = c.index.result.now in let k = knowledge_of s.domains s.first_generation s.may x.own x.header x.mappings in
@@ -39,25 +39,25 @@ returns-in_ok-begin-in-Open-clause-stands g c =
     let y = c.index_mut.result.now in
     let same : x ≡ y = same_Some x y (sym (place-at xs c.args.dom.0 c.in-Some.at x p c.index.ensures) ∙ place-at xs c.args.dom.0 c.in-Some.at y p c.index_mut.ensures.value) in
     let r = c.in-Open.open.call.request in
-    let new : c.begin.new.self ≡ with_open_call c.in-Open.open (kept_by r (bytes_given_by c.args.request)) x =
-    c.in_ok-begin-in-Open.ensures.opened ∙ ap (with_open_call c.in-Open.open (kept_by r c.given_by.result.now)) (sym same) ∙ ap (λ (l : List ℕ). with_open_call c.in-Open.open (kept_by r l) x) c.given_by.ensures in
+    let new : c.start_call.new.self ≡ with_open_call c.in-Open.open (kept_by r (bytes_given_by c.args.request)) x =
+    c.in_ok-start_call-in-Open.ensures.opened ∙ ap (with_open_call c.in-Open.open (kept_by r c.given_by.result.now)) (sym same) ∙ ap (λ (l : List ℕ). with_open_call c.in-Open.open (kept_by r l) x) c.given_by.ensures in
     λ h st. let r = begin-opened s h xs c.args.dom c.in-Some.at x c.args.request c.in-Open.open c.asked_fits.ensures p c.index.ensures
     (ap (λ (o : Option OpenCall). is_some o) (sym c.underway.ensures) ∙ sym c.is_some.ensures ∙ c.if-is_some.false) opens st in (
       (r.0, (refl, refl), r.1),
       subst (λ (z : State). DomainsStand s (began c.args.dom c.args.request None ∷ h) (set xs c.in-Some.at z)) (sym new) r.2,
     )
 
-pub returns-in_err-begin-in-Open-clause-memory : goal.returns-in_err-begin-in-Open-clause-memory
-returns-in_err-begin-in-Open-clause-memory g c =
+pub returns-in_err-start_call-in-Open-clause-memory : goal.returns-in_err-start_call-in-Open-clause-memory
+returns-in_err-start_call-in-Open-clause-memory g c =
     let s = setting_by g.P.Allows.may c.args.self.now in let xs = c.args.self.now.domains.items in
     let p : position (has_id c.args.dom.0) xs ≡ Some c.in-Some.at = ap (λ (l : List State). position (has_id c.args.dom.0) l) (sym c.deref.ensures.value) ∙ sym c.find.ensures ∙ c.in-Some.is in
     let x = c.index.result.now in let k = knowledge_of s.domains s.first_generation s.may x.own x.header x.mappings in
     let opens = subst (λ (o : Judged OpenCall). OpensAs k c.args.dom c.args.request o) c.in-Open.is (c.open_at.ensures x (place-at xs c.args.dom.0 c.in-Some.at x p c.index.ensures)) in
-    λ h st. on-err c.from_residual.result _ (begin-wants s h xs c.args.dom c.in-Some.at x c.args.request c.in-Open.open c.in_err-begin-in-Open.ensures.memory p c.index.ensures
+    λ h st. on-err c.from_residual.result _ (begin-wants s h xs c.args.dom c.in-Some.at x c.args.request c.in-Open.open c.in_err-start_call-in-Open.ensures.memory p c.index.ensures
     (ap (λ (o : Option OpenCall). is_some o) (sym c.underway.ensures) ∙ sym c.is_some.ensures ∙ c.if-is_some.false) opens st)
 
-pub begin-requires : goal.begin-requires
-begin-requires g c = let s = setting_by g.P.Allows.may c.args.self.now in let xs = c.args.self.now.domains.items in
+pub start_call-requires : goal.start_call-requires
+start_call-requires g c = let s = setting_by g.P.Allows.may c.args.self.now in let xs = c.args.self.now.domains.items in
     let p : position (has_id c.args.dom.0) xs ≡ Some c.in-Some.at = ap (λ (l : List State). position (has_id c.args.dom.0) l) (sym c.deref.ensures.value) ∙ sym c.find.ensures ∙ c.in-Some.is in
     let x = c.index.result.now in let k = knowledge_of s.domains s.first_generation s.may x.own x.header x.mappings in
     let opens = subst (λ (o : Judged OpenCall). OpensAs k c.args.dom c.args.request o) c.in-Open.is (c.open_at.ensures x (place-at xs c.args.dom.0 c.in-Some.at x p c.index.ensures)) in
@@ -67,6 +67,6 @@ begin-requires g c = let s = setting_by g.P.Allows.may c.args.self.now in let xs
 
 pub invariant_of-self-in-Open : goal.invariant_of-self-in-Open
 invariant_of-self-in-Open g c =
-    let xs = c.args.self.now.domains.items in let y = c.index_mut.result.now in let z = c.begin.new.self in
-    let same : z.id ≡ y.id = either-way c.begin.result _ _ (z.id ≡ y.id) c.begin.ensures.opened c.begin.ensures.refused (λ e. ap (λ (x : State). x.id) e) (λ e. ap (λ (x : State). x.id) e) in
+    let xs = c.args.self.now.domains.items in let y = c.index_mut.result.now in let z = c.start_call.new.self in
+    let same : z.id ≡ y.id = either-way c.start_call.result _ _ (z.id ≡ y.id) c.start_call.ensures.opened c.start_call.ensures.refused (λ e. ap (λ (x : State). x.id) e) (λ e. ap (λ (x : State). x.id) e) in
     record { placed = ids-set xs c.in-Some.at z y c.index_mut.ensures.value same ∙ c.args.self.now.placed }

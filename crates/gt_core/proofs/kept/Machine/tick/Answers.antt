@@ -46,28 +46,28 @@ advance-action-requires g c = let s = setting_by g.P.Allows.may c.args.self.now 
     let p : position (has_id c.args.dom.0) xs ≡ Some at = ap (λ (l : List State). position (has_id c.args.dom.0) l) (sym c.deref.ensures.value) ∙ sym c.find.ensures ∙ c.in-Some.is in
     still-within c.args.dom o.step c.in_ok-seen.seen xs _ at x p c.in_ok-seen.ensures.applied
 
-pub settle-answer-requires-clause-there : goal.settle-answer-requires-clause-there
-settle-answer-requires-clause-there g c = let s = setting_by g.P.Allows.may c.args.self.now in let xs = c.args.self.now.domains.items in
+pub settle_call-answer-requires-clause-there : goal.settle_call-answer-requires-clause-there
+settle_call-answer-requires-clause-there g c = let s = setting_by g.P.Allows.may c.args.self.now in let xs = c.args.self.now.domains.items in
     let x = c.index.result.now in let at = c.in-Some.at in let o = c.in-Some-underway.open in
     let p : position (has_id c.args.dom.0) xs ≡ Some at = ap (λ (l : List State). position (has_id c.args.dom.0) l) (sym c.deref.ensures.value) ∙ sym c.find.ensures ∙ c.in-Some.is in
     still-within c.args.dom o.step c.in_ok-seen.seen xs _ at x p c.in_ok-seen.ensures.applied
 
-pub settle-answer-requires-clause-under : goal.settle-answer-requires-clause-under
-settle-answer-requires-clause-under g c = let s = setting_by g.P.Allows.may c.args.self.now in let xs = c.args.self.now.domains.items in
+pub settle_call-answer-requires-clause-under : goal.settle_call-answer-requires-clause-under
+settle_call-answer-requires-clause-under g c = let s = setting_by g.P.Allows.may c.args.self.now in let xs = c.args.self.now.domains.items in
     let x = c.index.result.now in let at = c.in-Some.at in let o = c.in-Some-underway.open in
     let p : position (has_id c.args.dom.0) xs ≡ Some at = ap (λ (l : List State). position (has_id c.args.dom.0) l) (sym c.deref.ensures.value) ∙ sym c.find.ensures ∙ c.in-Some.is in
     λ d there. still-underway c.args.dom o.step c.in_ok-seen.seen xs at x d (place-at xs c.args.dom.0 at x p c.index.ensures)
     (sym (ap (λ (l : List State). slice_get l at) c.in_ok-seen.ensures.applied) ∙ there) ∙ sym c.underway.ensures ∙ c.in-Some-underway.is
 
-pub settle-answer-requires-clause-readable : goal.settle-answer-requires-clause-readable
-settle-answer-requires-clause-readable g c = let s = setting_by g.P.Allows.may c.args.self.now in let xs = c.args.self.now.domains.items in
+pub settle_call-answer-requires-clause-readable : goal.settle_call-answer-requires-clause-readable
+settle_call-answer-requires-clause-readable g c = let s = setting_by g.P.Allows.may c.args.self.now in let xs = c.args.self.now.domains.items in
     let x = c.index.result.now in let at = c.in-Some.at in let o = c.in-Some-underway.open in
     let p : position (has_id c.args.dom.0) xs ≡ Some at = ap (λ (l : List State). position (has_id c.args.dom.0) l) (sym c.deref.ensures.value) ∙ sym c.find.ensures ∙ c.in-Some.is in
     readable-after c.args.self.now.frames c.perform.new.self.frames x o.call o.step (c.in_ok-seen.ensures.accessed x (place-at xs c.args.dom.0 at x p c.index.ensures))
     (tick-readable s c.requires.0 xs c.args.dom at x o p c.index.ensures (sym c.underway.ensures ∙ c.in-Some-underway.is) c.args.self.now.frames c.requires.1)
 
-pub settle-answer-requires-clause-room : goal.settle-answer-requires-clause-room
-settle-answer-requires-clause-room g c = let s = setting_by g.P.Allows.may c.args.self.now in let xs = c.args.self.now.domains.items in
+pub settle_call-answer-requires-clause-room : goal.settle_call-answer-requires-clause-room
+settle_call-answer-requires-clause-room g c = let s = setting_by g.P.Allows.may c.args.self.now in let xs = c.args.self.now.domains.items in
     let x = c.index.result.now in let at = c.in-Some.at in let o = c.in-Some-underway.open in
     let p : position (has_id c.args.dom.0) xs ≡ Some at = ap (λ (l : List State). position (has_id c.args.dom.0) l) (sym c.deref.ensures.value) ∙ sym c.find.ensures ∙ c.in-Some.is in
     let seen = c.in_ok-seen.seen in let new = c.advance-action.result.0 in let action = c.advance-action.result.1 in
@@ -83,11 +83,11 @@ returns-clause-stands g c = let s = setting_by g.P.Allows.may c.args.self.now in
     let p : position (has_id c.args.dom.0) xs ≡ Some at = ap (λ (l : List State). position (has_id c.args.dom.0) l) (sym c.deref.ensures.value) ∙ sym c.find.ensures ∙ c.in-Some.is in
     let seen = c.in_ok-seen.seen in let new = c.advance-action.result.0 in let action = c.advance-action.result.1 in
     let ws = c.perform.new.self.domains.items in let applied = c.in_ok-seen.ensures.applied in
-    tick-does s c.args.self.now.frames c.perform.new.self.frames c.settle-answer.new.self.frames xs c.settle-answer.new.self.domains.items c.args.dom at x o seen new action c.settle-answer.result c.ticked_as.result c.ticked_as.ensures
+    tick-does s c.args.self.now.frames c.perform.new.self.frames c.settle_call-answer.new.self.frames xs c.settle_call-answer.new.self.domains.items c.args.dom at x o seen new action c.settle_call-answer.result c.ticked_as.result c.ticked_as.ensures
     (begins-after s c.requires.0 xs ws c.args.self.now.frames c.args.dom at x o seen new action c.requires.1 p c.index.ensures (sym c.underway.ensures ∙ c.in-Some-underway.is)
     c.in_ok-seen.ensures.sees applied c.advance-action.ensures.caller c.advance-action.ensures.request
     (λ d there k alike. c.advance-action.ensures.goes d there k
     (subst (λ (z : CallerKnowledge). IsLeftAlike k z o.call seen) (sym (known-still g.P.Allows.may c.args.self.now c.perform.new.self c.in_ok-seen.ensures.config c.in_ok-seen.ensures.rights d)) alike)))
     (c.in_ok-seen.ensures.accessed x (place-at xs c.args.dom.0 at x p c.index.ensures))
-    (λ d there. subst (λ (l : List State). Settled c.perform.new.self.frames l at d o.step new action c.settle-answer.result c.settle-answer.new.self.domains.items) applied
-    (c.settle-answer.ensures.settles d (ap (λ (l : List State). slice_get l at) applied ∙ there))) c.settle-answer.ensures.frames
+    (λ d there. subst (λ (l : List State). Settled c.perform.new.self.frames l at d o.step new action c.settle_call-answer.result c.settle_call-answer.new.self.domains.items) applied
+    (c.settle_call-answer.ensures.settles d (ap (λ (l : List State). slice_get l at) applied ∙ there))) c.settle_call-answer.ensures.frames

@@ -19,8 +19,8 @@ pub returns : goal.returns
 returns c =
     let run = run_contents c.args.self.now.script.now in
     let f = found_from c.args.self.now.found.now in
-    let place : c.place_of-place.result ≡ index_of_text c.args.given.now f.texts =
-    (rw c.as_slice.ensures.value at c.place_of-place.ensures.place) ∙ position_map (λ t. bytes_eq t c.args.given.now) (λ (o : FoundText). o.text.items) c.args.self.now.found.now.texts.items in
+    let place : c.text_place-place.result ≡ index_of_text c.args.given.now f.texts =
+    (rw c.as_slice.ensures.value at c.text_place-place.ensures.place) ∙ position_map (λ t. bytes_eq t c.args.given.now) (λ (o : FoundText). o.text.items) c.args.self.now.found.now.texts.items in
     let verdict : c.verdict_on.result ≡ verdict_at Find (is_some (index_of_text c.args.given.now f.texts)) f.whole =
     c.verdict_on.ensures ∙ ap (λ (o : Option ℕ). verdict_at Find (is_some o) f.whole) place in
     let shown = c.in_ok-push_text.ensures in

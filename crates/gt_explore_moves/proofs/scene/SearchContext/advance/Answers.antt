@@ -15,7 +15,7 @@ returns-in_default-task c = let w = c.args.world.now in let place = c.args.turn.
 pub returns-in-Do : goal.returns-in-Do
 returns-in-Do c = let w = c.args.world.now in let place = c.args.turn.place in let a = c.in-Some.actor.now in let task = c.in-Some-task.task.now in
     let there = actor-at c.deref.result.now w.actors.items place a c.in-Some.ensures.lookup.0 c.in-Some.ensures.lookup.1 c.deref.ensures.value in
-    begin-along c.args.self.now place c.args.turn.choice w c.begin.new.world a task c.in-Do.call c.begin.result there c.in_default-open.is (sym c.in-Some-task.ensures) c.in-Do.is c.said_fits.ensures c.begin.ensures
+    begin-along c.args.self.now place c.args.turn.choice w c.begin_call.new.world a task c.in-Do.call c.begin_call.result there c.in_default-open.is (sym c.in-Some-task.ensures) c.in-Do.is c.said_fits.ensures c.begin_call.ensures
 
 pub returns-in-Tell : goal.returns-in-Tell
 returns-in-Tell c = let w = c.args.world.now in let place = c.args.turn.place in let a = c.in-Some.actor.now in let task = c.in-Some-task.task.now in

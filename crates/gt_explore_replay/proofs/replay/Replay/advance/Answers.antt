@@ -19,17 +19,17 @@ give_back-requires-clause-end c = c.in_default.ensures.end
 pub give_back-requires-clause-idle : goal.give_back-requires-clause-idle
 give_back-requires-clause-idle c = c.is_calling.ensures.idle c.if-is_calling.false
 
-pub begin-requires-clause-next : goal.begin-requires-clause-next
-begin-requires-clause-next c = sym c.in-Some.ensures.task
+pub begin_call-requires-clause-next : goal.begin_call-requires-clause-next
+begin_call-requires-clause-next c = sym c.in-Some.ensures.task
 
-pub begin-requires-clause-room : goal.begin-requires-clause-room
-begin-requires-clause-room c = c.in-Some.ensures.room refl
+pub begin_call-requires-clause-room : goal.begin_call-requires-clause-room
+begin_call-requires-clause-room c = c.in-Some.ensures.room refl
 
-pub begin-requires-clause-does : goal.begin-requires-clause-does
-begin-requires-clause-does c = c.in-Do.is
+pub begin_call-requires-clause-does : goal.begin_call-requires-clause-does
+begin_call-requires-clause-does c = c.in-Do.is
 
-pub begin-requires-clause-idle : goal.begin-requires-clause-idle
-begin-requires-clause-idle c = c.is_calling.ensures.idle c.if-is_calling.false
+pub begin_call-requires-clause-idle : goal.begin_call-requires-clause-idle
+begin_call-requires-clause-idle c = c.is_calling.ensures.idle c.if-is_calling.false
 
 pub skip-requires : goal.skip-requires
 skip-requires c = c.in-Some.ensures.room refl
@@ -54,9 +54,9 @@ returns-in_default-clause-walks c = λ k hs come.
 pub returns-in-Do-clause-walks : goal.returns-in-Do-clause-walks
 returns-in-Do-clause-walks c = λ k hs come.
     let within : c.args.turn.place < length c.args.self.now.walkers.items = search rules in
-    comes_made k hs c.args.self.now _ c.args.turn.place c.index_mut-walker.result.now c.begin.new.self c.as_slice-types.result.now c.begin.result come
+    comes_made k hs c.args.self.now _ c.args.turn.place c.index_mut-walker.result.now c.begin_call.new.self c.as_slice-types.result.now c.begin_call.result come
     (slice_get_read c.args.self.now.walkers.items _ c.args.turn.place c.index_mut-walker.result.now refl within c.index_mut-walker.ensures.value) c.as_slice-types.ensures.value
-    c.begin.ensures.config c.begin.ensures.rights refl refl refl c.begin.ensures.makes
+    c.begin_call.ensures.config c.begin_call.ensures.rights refl refl refl c.begin_call.ensures.makes
 
 pub returns-then-raise-clause-walks : goal.returns-then-raise-clause-walks
 returns-then-raise-clause-walks c = λ k hs come.
@@ -96,9 +96,9 @@ returns-in_default-clause-abreast c = λ k hs ks x u j abreast at leads may.
 pub returns-in-Do-clause-abreast : goal.returns-in-Do-clause-abreast
 returns-in-Do-clause-abreast c = λ k hs ks x u j abreast at leads may.
     let within : c.args.turn.place < length c.args.self.now.walkers.items = search rules in
-    begin_comes k hs ks c.args.self.now _ x c.args.turn.place c.args.turn.choice u j c.index_mut-walker.result.now c.begin.new.self c.in-Some.task.now _ c.as_slice-types.result.now c.begin.result abreast at
+    begin_comes k hs ks c.args.self.now _ x c.args.turn.place c.args.turn.choice u j c.index_mut-walker.result.now c.begin_call.new.self c.in-Some.task.now _ c.as_slice-types.result.now c.begin_call.result abreast at
     (slice_get_read c.args.self.now.walkers.items _ c.args.turn.place c.index_mut-walker.result.now refl within c.index_mut-walker.ensures.value) c.as_slice-types.ensures.value
-    c.begin.ensures.config c.begin.ensures.rights refl refl refl (sym c.in-Some.ensures.task) c.in-Do.is (c.is_calling.ensures.idle c.if-is_calling.false) leads may c.begin.ensures.does
+    c.begin_call.ensures.config c.begin_call.ensures.rights refl refl refl (sym c.in-Some.ensures.task) c.in-Do.is (c.is_calling.ensures.idle c.if-is_calling.false) leads may c.begin_call.ensures.does
 
 pub returns-then-raise-clause-abreast : goal.returns-then-raise-clause-abreast
 returns-then-raise-clause-abreast c = λ k hs ks x u j abreast at leads may.

@@ -6,7 +6,7 @@ use Rattle.gt_flow.proofs.searching.ReachedTypes.path_to.Goals as goal
 pub back-init : goal.back-init
 back-init c = rw c.new-path.ensures.items
     (not-yet c.args.self.now c.in-Some.place
-    (inside-found c.args.self.now c.args.target c.in-Some.place (sym c.place_of.ensures ∙ c.in-Some.is)))
+    (inside-found c.args.self.now c.args.target c.in-Some.place (sym c.target_place.ensures ∙ c.in-Some.is)))
 
 pub back-smaller : goal.back-smaller
 back-smaller c = is-less c.args.self.now c.in-Some.place c.back.at c.back.path.items c.index-hop.result.now c.back.invariant
@@ -23,7 +23,7 @@ back-preserved c = rw c.in_ok-insert.ensures.items
 
 pub returns : goal.returns
 returns c = arrived c.args.self.now c.args.target c.in-Some.place c.back.at c.back.path.items
-    (sym c.place_of.ensures ∙ c.in-Some.is) c.back-test.false c.back.invariant
+    (sym c.target_place.ensures ∙ c.in-Some.is) c.back-test.false c.back.invariant
 
 pub returns-in_default : goal.returns-in_default
-returns-in_default c = no-path c.args.self.now c.args.target (sym c.place_of.ensures ∙ c.in_default.is)
+returns-in_default c = no-path c.args.self.now c.args.target (sym c.target_place.ensures ∙ c.in_default.is)

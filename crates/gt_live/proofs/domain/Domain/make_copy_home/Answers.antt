@@ -3,7 +3,7 @@ use Rattle.gt_types.specs.declared.DomId.{DomId}
 use Rattle.gt_types.specs.declared.places.Spot.{Spot}
 use Rattle.gt_model.specs.declared.held.HeldPin.{HeldPin}
 use Rattle.gt_model.specs.declared.request.Request.TheVariants as requests
-use Rattle.gt_model.specs.Path.{path_of, place_of}
+use Rattle.gt_model.specs.Path.{path_of, end_spot}
 use Rattle.gt_handles.specs.Handles.{HandleMap}
 use Rattle.gt_live.specs.Domains.{knowledge}
 use Rattle.std.specs.Prelude.{IfErr, IfOk}
@@ -26,16 +26,16 @@ copy_through-copied-requires-clause-source g c =
     let m = c.args.monitor.now in let d = c.args.self.now in let copy = c.args.copy.now in let pins = c.drive_copy.new.pins in
     let c0 = knowledge m.config (g.P.Allows.may m.rights) d in let f = c.drive_copy.new.self in
     let me = c.drive_copy.ensures.kept.seat.dom in
-    access-source c0 m.words.layout f.seat d.seat.dom copy pins d.seat.view me c.in-Ok.ensures.stops c.place_of-from.result
-    (c.place_of-from.ensures ∙ ap (λ (x : DomId). place_of x copy.source pins.source) (c.dom-caller.ensures ∙ me))
+    access-source c0 m.words.layout f.seat d.seat.dom copy pins d.seat.view me c.in-Ok.ensures.stops c.end_spot-from.result
+    (c.end_spot-from.ensures ∙ ap (λ (x : DomId). end_spot x copy.source pins.source) (c.dom-caller.ensures ∙ me))
 
 pub copy_through-copied-requires-clause-dest : goal.copy_through-copied-requires-clause-dest
 copy_through-copied-requires-clause-dest g c =
     let m = c.args.monitor.now in let d = c.args.self.now in let copy = c.args.copy.now in let pins = c.drive_copy.new.pins in
     let c0 = knowledge m.config (g.P.Allows.may m.rights) d in let f = c.drive_copy.new.self in
     let me = c.drive_copy.ensures.kept.seat.dom in
-    access-dest c0 m.words.layout f.seat d.seat.dom copy pins d.seat.view me c.in-Ok.ensures.stops c.place_of-to.result
-    (c.place_of-to.ensures ∙ ap (λ (x : DomId). place_of x copy.dest pins.dest) (c.dom-caller.ensures ∙ me))
+    access-dest c0 m.words.layout f.seat d.seat.dom copy pins d.seat.view me c.in-Ok.ensures.stops c.end_spot-to.result
+    (c.end_spot-to.ensures ∙ ap (λ (x : DomId). end_spot x copy.dest pins.dest) (c.dom-caller.ensures ∙ me))
 
 pub copy_through-copied-requires-clause-may : goal.copy_through-copied-requires-clause-may
 copy_through-copied-requires-clause-may g c =
@@ -50,8 +50,8 @@ copy_through-copied-requires-clause-source_range g c =
     let c0 = knowledge m.config (g.P.Allows.may m.rights) d in let f = c.drive_copy.new.self in
     let me = c.drive_copy.ensures.kept.seat.dom in
     access-source-range c0 m.words.layout f.seat d.seat.dom copy pins d.seat.view me c.in-Ok.ensures.stops
-    c.place_of-from.result
-    (c.place_of-from.ensures ∙ ap (λ (x : DomId). place_of x copy.source pins.source) (c.dom-caller.ensures ∙ me))
+    c.end_spot-from.result
+    (c.end_spot-from.ensures ∙ ap (λ (x : DomId). end_spot x copy.source pins.source) (c.dom-caller.ensures ∙ me))
 
 pub copy_through-copied-requires-clause-dest_range : goal.copy_through-copied-requires-clause-dest_range
 copy_through-copied-requires-clause-dest_range g c =
@@ -59,8 +59,8 @@ copy_through-copied-requires-clause-dest_range g c =
     let c0 = knowledge m.config (g.P.Allows.may m.rights) d in let f = c.drive_copy.new.self in
     let me = c.drive_copy.ensures.kept.seat.dom in
     access-dest-range c0 m.words.layout f.seat d.seat.dom copy pins d.seat.view me c.in-Ok.ensures.stops
-    c.place_of-to.result
-    (c.place_of-to.ensures ∙ ap (λ (x : DomId). place_of x copy.dest pins.dest) (c.dom-caller.ensures ∙ me))
+    c.end_spot-to.result
+    (c.end_spot-to.ensures ∙ ap (λ (x : DomId). end_spot x copy.dest pins.dest) (c.dom-caller.ensures ∙ me))
 
 pub give_back-requires : goal.give_back-requires
 give_back-requires g c =
@@ -116,25 +116,25 @@ returns-clause-answered g c =
     let m = c.args.monitor.now in let d = c.args.self.now in let copy = c.args.copy.now in let pins = c.drive_copy.new.pins in
     let k = m.words.layout in let c0 = knowledge m.config (g.P.Allows.may m.rights) d in let f = c.drive_copy.new.self in
     let e = c.give_back.new.self in let me = c.drive_copy.ensures.kept.seat.dom in let t = c.copy_through-copied in
-    let from_is : c.place_of-from.result ≡ place_of d.seat.dom copy.source pins.source =
-    c.place_of-from.ensures ∙ ap (λ (x : DomId). place_of x copy.source pins.source) (c.dom-caller.ensures ∙ me) in
-    let to_is : c.place_of-to.result ≡ place_of d.seat.dom copy.dest pins.dest =
-    c.place_of-to.ensures ∙ ap (λ (x : DomId). place_of x copy.dest pins.dest) (c.dom-caller.ensures ∙ me) in
-    made-whole c0 m.words d copy pins (place_of d.seat.dom copy.source pins.source)
-    (place_of d.seat.dom copy.dest pins.dest) copy.len f.seat.view t.new.seat.view e.seat.view
+    let from_is : c.end_spot-from.result ≡ end_spot d.seat.dom copy.source pins.source =
+    c.end_spot-from.ensures ∙ ap (λ (x : DomId). end_spot x copy.source pins.source) (c.dom-caller.ensures ∙ me) in
+    let to_is : c.end_spot-to.result ≡ end_spot d.seat.dom copy.dest pins.dest =
+    c.end_spot-to.ensures ∙ ap (λ (x : DomId). end_spot x copy.dest pins.dest) (c.dom-caller.ensures ∙ me) in
+    made-whole c0 m.words d copy pins (end_spot d.seat.dom copy.source pins.source)
+    (end_spot d.seat.dom copy.dest pins.dest) copy.len f.seat.view t.new.seat.view e.seat.view
     (path_of c0 d.seat.dom (requests.Copy copy)) t.result
     c.in-Ok.ensures.stops c.give_back.ensures.gives refl
     (subst (λ (q : Spot). IfOk t.result
-    (λ (r : Copying). CopiesBetween k (place_of d.seat.dom copy.source pins.source) q copy.len d.seat.dom pins r f.seat.view t.new.seat.view))
+    (λ (r : Copying). CopiesBetween k (end_spot d.seat.dom copy.source pins.source) q copy.len d.seat.dom pins r f.seat.view t.new.seat.view))
     to_is
     (subst (λ (p : Spot). IfOk t.result
-    (λ (r : Copying). CopiesBetween k p c.place_of-to.result copy.len d.seat.dom pins r f.seat.view t.new.seat.view)) from_is
+    (λ (r : Copying). CopiesBetween k p c.end_spot-to.result copy.len d.seat.dom pins r f.seat.view t.new.seat.view)) from_is
     (subst (λ (x : DomId). IfOk t.result
-    (λ (r : Copying). CopiesBetween k c.place_of-from.result c.place_of-to.result copy.len x pins r f.seat.view t.new.seat.view)) me
+    (λ (r : Copying). CopiesBetween k c.end_spot-from.result c.end_spot-to.result copy.len x pins r f.seat.view t.new.seat.view)) me
     t.ensures.copied)))
     t.ensures.unmade t.ensures.refused
-    (subst (λ (q : Spot). IfErr t.result (IsIfOneMissing m.words (place_of d.seat.dom copy.source pins.source).frame q.frame)) to_is
-    (subst (λ (p : Spot). IfErr t.result (IsIfOneMissing m.words p.frame c.place_of-to.result.frame)) from_is t.ensures.cause))
+    (subst (λ (q : Spot). IfErr t.result (IsIfOneMissing m.words (end_spot d.seat.dom copy.source pins.source).frame q.frame)) to_is
+    (subst (λ (p : Spot). IfErr t.result (IsIfOneMissing m.words p.frame c.end_spot-to.result.frame)) from_is t.ensures.cause))
 
 pub returns-clause-kept : goal.returns-clause-kept
 returns-clause-kept g c =

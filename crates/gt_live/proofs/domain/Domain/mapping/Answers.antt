@@ -1,6 +1,6 @@
 use Rattle.std.proofs.Common.{◌≡◌, ◌∙◌, sym, Option, Some, None, refl}
 use Rattle.std.specs.Prelude.{IfSome}
-use Rattle.gt_access.specs.AccessPaths.{MayAccessBy}
+use Rattle.gt_live.specs.AccessPaths.{MayAccessBy}
 use Rattle.gt_model.specs.declared.held.HeldPin.{HeldPin}
 use Rattle.gt_model.specs.declared.held.AccessPath.TheVariants.{Direct}
 use Rattle.gt_live.specs.Mappings.{ReachesItsFrame}

@@ -2,7 +2,7 @@ use Rattle.std.proofs.Common.{◌≡◌, ◌∙◌, ◌+◌, ◌≤◌, ℕ, len
 use Rattle.gt_types.specs.declared.Dir.TheVariants.{Read}
 use Rattle.gt_types.specs.declared.Use.TheVariants.{Map}
 use Rattle.gt_types.specs.declared.limits.TheConstants.{FRAME_SIZE}
-use Rattle.gt_access.specs.AccessPaths.{ReachesBy}
+use Rattle.gt_live.specs.AccessPaths.{ReachesBy}
 use Rattle.gt_live.proofs.domain.bytes.read_through.Goals as goal
 
 pub fill_through-requires-clause-reached : goal.fill_through-requires-clause-reached

@@ -12,8 +12,8 @@ returns-clause-step g c =
     elim c.match-copy_frames.branch [
       | in-Ok w ↦
           rw w.result-is
-          (copied_at b c.self.inside.words (index_of b a.from.frame) c.in-Some.source (index_of b a.to.frame)
-          c.in-Some-frame_at.dest a.writ.now (record { off = a.from.off; len = a.len }) a.to.off a.seat.now.view
+          (copied_at b c.self.inside.words (index_of b a.source) c.in-Some.from (index_of b a.dest)
+          c.in-Some-frame_at.to a.copy.writ.now a.copy.range a.copy.to_off a.seat.now.view
           c.seat.inside.place.view r.new.seat.view c.self.view_is from.0 to.0
           (ap (λ (s : SeatOf). s.view) (c.seat.view_is ∙ (c.frame_at-2.ensures.seat ∙ c.frame_at.ensures.seat))) from.1 to.1
           w.in-Ok.ensures.step)

@@ -13,7 +13,7 @@ returns-clause-step g c =
       | in-Ok w ↦
           rw w.result-is
           (accessed_at b c.self.inside.words (index_of b a.name) c.in-Some.frame
-          (Wrote (record { writ = a.writ.now; off = a.off; bytes = a.bytes.now })) a.seat.now.view c.seat.inside.place.view
+          (Wrote (record { writ = a.write.writ.now; off = a.write.off; bytes = a.write.bytes.now })) a.seat.now.view c.seat.inside.place.view
           r.new.seat.view c.self.view_is found.0 (ap (λ (s : SeatOf). s.view) (c.seat.view_is ∙ c.frame_at.ensures.seat)) found.1
           w.in-Ok.ensures.step)
       | in-Err w ↦ rw w.result-is tt

@@ -1,6 +1,0 @@
-use Rattle.std.proofs.Common.{◌≡◌, drop}
-use Rattle.gt_explore_moments.specs.Showing.{shown_among}
-use Rattle.gt_explore_moments.proofs.rows.shown_among.Given as goal
-
-abbrev pub invariant-rows : goal.invariant-rows
-invariant-rows l = shown_among l.rows l.dom l.gref.0 ≡ shown_among (drop l.row-index l.rows) l.dom l.gref.0

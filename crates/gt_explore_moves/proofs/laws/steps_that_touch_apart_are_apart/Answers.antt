@@ -1,5 +1,0 @@
-use Rattle.gt_explore_moves.proofs.Swapping.{steps-apart-in}
-use Rattle.gt_explore_moves.proofs.laws.steps_that_touch_apart_are_apart.Goals as goal
-
-pub returns : goal.returns
-returns c s h i j y z v w touch one other = steps-apart-in s h i j y z v w touch one other

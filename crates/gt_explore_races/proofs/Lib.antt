@@ -1,0 +1,7 @@
+pub mod Accessing
+pub mod Beginning
+pub mod Orders
+pub mod Remade
+pub mod Saying
+pub mod Spaces
+pub mod Stepping

@@ -1,0 +1,6 @@
+pub mod Accesses
+pub mod Listing
+pub mod Races
+pub mod Replays
+pub mod Spaces
+pub mod Texts

@@ -1,0 +1,2 @@
+mod RelayLemmas
+pub mod RunLemmas

@@ -1,0 +1,2 @@
+pub mod RunNames
+pub mod Runs
