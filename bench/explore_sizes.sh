@@ -13,8 +13,9 @@
 #   high N   the same as map N, with references from 8,000 on
 #   turns N  N requests on one page, each answered before the next
 #
-# A program that meets more states than the limit, or takes more than a minute, is reported as such. The gate does
-# not run it, since it prints times.
+# A program that meets more states than the limit, or takes more than a minute, is reported as such. At the end are the
+# states and seconds of SPIN for `map N`, if it is installed (bench/spin.sh). The gate does not run it, since it prints
+# times.
 # PROGRAM=FILE takes the built program gthost.
 # usage: bench/explore_sizes.sh [STATES]        1,000,000 if it is left out
 set -euo pipefail
@@ -154,3 +155,10 @@ for size in 4 6 7 8; do measure text "$size"; done
 for size in 1 2 3; do measure via "$size"; done
 for size in 4; do measure high "$size"; done
 for size in 256 1024 2048; do measure turns "$size"; done
+
+# The same programs `map N` by SPIN, in the same hour.
+if command -v spin >/dev/null; then
+  "$(dirname "${BASH_SOURCE[0]}")/spin.sh" 5
+else
+  echo 'map N by SPIN: not measured, since it is not installed'
+fi

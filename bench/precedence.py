@@ -5,7 +5,8 @@ Draws COUNT small scripts (40) by a seed (1): two domains with a few calls, the 
 granted a page. Each order of their moves is played, by a script with `begin` and `tick` lines, and what `play` prints says when each call was answered. So for each
 pair of calls the texts are known that have an order in which the first is answered before the second begins. `explore
 --find` lists these texts for the term, and for the term with a condition those that satisfy it; `--never` holds if there
-are none, and else prints a script for `play` whose calls are in that order.
+are none, and else prints a script for `play` whose calls are in that order. Terms that are joined in other ways are
+held against each order, too: the texts that `--find` lists, and the verdicts of `--find`, `--never` and `--always`.
 
 Prints what was counted. The status is 1 if something differs; the script is then left as precedence-SEED-NUMBER.
 """
@@ -30,6 +31,18 @@ FIRST = ["poke 5 0 2a", "grant 0 page 2 rw 5"]
 OWNED = ["revoke 0", "withdraw 0", "peek 5 0 1", "poke 5 0 2b", "grant 1 page 2 ro 6", "demote 0"]
 MAPPED = [["map page 1 0 ro", "unmap page"], ["map page 1 0 ro", "load page 0 1", "unmap page"]]
 OTHER = ["getversion 1", "size 1", "poke 3 0 ff", "grant 0 page 1 ro 3", "revoke 0"]
+# Expressions of two terms of order, which hold of an order or not, and a condition, which its text meets or not.
+JOINED = [
+    ("!{0}", lambda one, other, met: not one),
+    ("{0}|{1}", lambda one, other, met: one or other),
+    ("!({0}&{1})", lambda one, other, met: not (one and other)),
+    ("!({0}|{1})", lambda one, other, met: not (one or other)),
+    ("{0}|{2}", lambda one, other, met: one or met),
+    ("!{0}&{2}", lambda one, other, met: not one and met),
+    ("{2}|!{1}", lambda one, other, met: met or not other),
+    ("{0}&!{2}|{1}", lambda one, other, met: one and not met or other),
+    ("!{2}&({0}|{1})", lambda one, other, met: not met and (one or other)),
+]
 MOST = 1_500
 
 
@@ -98,6 +111,7 @@ class Precedence(Draws):
         for a in calls:
             for b in rng.sample(calls, min(2, len(calls))):
                 self.pair(rng, text, texts, lines, a, b)
+            self.joined(rng, text, texts, lines, calls)
 
     def pair(self, rng, script, texts, lines, a, b):
         line = rng.choice([n for n, said in enumerate(lines) if said.startswith("do ")])
@@ -119,6 +133,31 @@ class Precedence(Draws):
             self.want(found == wanted, f"--find '{expression}' lists {len(found)} texts, and the orders give {len(wanted)}")
             self.seen["terms that hold" if wanted else "terms that never hold"] += 1
             self.never(script, expression, wanted, lines, a, b)
+
+    def joined(self, rng, script, texts, lines, calls):
+        """Holds a claim whose terms are joined in some way against each order."""
+        pairs = [tuple(rng.sample(calls, 2)) for _ in "01"]
+        line, answer = rng.choice(calls), rng.choice(["ok", "N10", "N19", "N6"])
+        said, holds = rng.choice(JOINED)
+        expression = said.format(*(f"{a + 1}<{b + 1}" for a, b in pairs), f"{line + 1}={answer}")
+        met = {shown: re.search(rf"^{line + 1} \d {answer}( |$)", shown, re.M) is not None for shown in texts}
+        passes = {
+            shown: {bool(holds(pairs[0] in order, pairs[1] in order, met[shown])) for order in orders}
+            for shown, orders in texts.items()
+        }
+        wanted = sorted((shown for shown in texts if True in passes[shown]), key=str.encode)
+        fails = any(False in passes[shown] for shown in texts)
+        statuses = {"find": not wanted, "never": bool(wanted), "always": fails}
+        for kind, status in statuses.items():
+            done = self.run("explore", "--states", STATES, f"--{kind}={expression}", text=script)
+            if done.returncode == 2 and "{2}" in said:
+                self.seen["conditions refused"] += 1
+                return
+            self.want(done.returncode == status, f"--{kind} '{expression}' has status {done.returncode}: {done.stderr}")
+            if kind == "find":
+                found = sorted(set(texts_of(done.stdout.decode())[0] if wanted else []), key=str.encode)
+                self.want(found == wanted, f"--find '{expression}' lists {len(found)} texts, and the orders give {len(wanted)}")
+            self.seen["joined claims"] += 1
 
     def never(self, script, expression, wanted, lines, a, b):
         done = self.run("explore", "--states", STATES, f"--never={expression}", text=script)

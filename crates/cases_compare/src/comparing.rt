@@ -43,11 +43,12 @@ struct Told<'a> {
 
 // Returns the configuration and the rights in the script.
 fn settings(alloc: Global, script: &Script<'_>) -> Result<(Config, ScriptPolicy), Stop> {
+    let head = script.head();
     let config = Config {
-        domains: Vec::from_slice(alloc, script.domains())?,
-        first_gen: script.first_gen(),
+        domains: Vec::from_slice(alloc, head.domains())?,
+        first_gen: head.first_gen(),
     };
-    match ScriptPolicy::of(alloc, script) {
+    match ScriptPolicy::of(alloc, head) {
         Ok(rights) => Ok((config, rights)),
         Err(_) => Err(Stop::Memory),
     }
@@ -214,7 +215,7 @@ fn tell_script<'a, R: Wait, D: Calls + Drop>(
     script: &Script<'a>,
     text: &str,
 ) -> Result<(), Stop> {
-    let names = script.type_names(both.alloc)?;
+    let names = script.head().type_names(both.alloc)?;
     lines_compared(both, rt, scarce, told, script.steps(), names.as_slice())?;
     if told.difference.is_none() {
         told.difference = text_difference(both, text, told.lines.as_slice(), names.as_slice())?;
@@ -248,7 +249,7 @@ fn both_of<D: Calls + Drop>(
     script: &Script<'_>,
     domains: Vec<D>,
 ) -> Result<Both<D>, Stop> {
-    let configured = Vec::from_slice(alloc, script.domains())?;
+    let configured = Vec::from_slice(alloc, script.head().domains())?;
     Ok(Both {
         alloc,
         configured,

@@ -1,7 +1,8 @@
 //! Parsed scripts as texts.
 use gt_policy::Policy;
 use gt_script::{
-    RunScript, Script, ScriptAction, ScriptCall, ScriptStep, Text, hex_bytes, parse, parse_run,
+    RunScript, Script, ScriptAction, ScriptCall, ScriptHead, ScriptStep, Text, hex_bytes, parse,
+    parse_run,
 };
 use gt_types::{Allows, DomId, Perms, TypeId};
 use std::alloc::{AllocError, Global};
@@ -36,10 +37,11 @@ fn play_said(alloc: Global, text: &[u8]) -> Result<String, AllocError> {
 }
 
 fn script_said(alloc: Global, script: &Script<'_>) -> Result<String, AllocError> {
-    let types = script.type_names(alloc)?;
+    let head = script.head();
+    let types = head.type_names(alloc)?;
     let mut out = String::new(alloc);
     push_names(&mut out, types.as_slice())?;
-    push_settings(&mut out, script)?;
+    push_settings(&mut out, head)?;
     for step in script.steps() {
         push_step(&mut out, alloc, step)?;
     }
@@ -57,15 +59,15 @@ fn push_names(out: &mut String, names: &[Text<'_>]) -> Result<(), AllocError> {
 }
 
 // Appends the triples, the domains, the first generation and the policy.
-fn push_settings(out: &mut String, script: &Script<'_>) -> Result<(), AllocError> {
-    for triple in script.triples() {
+fn push_settings(out: &mut String, head: &ScriptHead<'_>) -> Result<(), AllocError> {
+    for triple in head.triples() {
         writeln!(out, "{triple:?}")?;
     }
-    for domain in script.domains() {
+    for domain in head.domains() {
         writeln!(out, "{domain:?}")?;
     }
-    writeln!(out, "first generation {}", script.first_gen())?;
-    match script.policy() {
+    writeln!(out, "first generation {}", head.first_gen())?;
+    match head.policy() {
         Some(policy) => push_policy(out, policy),
         None => Ok(()),
     }

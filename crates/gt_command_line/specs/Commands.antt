@@ -114,8 +114,8 @@ gthost_app = fold with_mode bare_app every_mode
 
 -- what an exploration seeks: all texts, the verdict on a claim, the verdicts on the claims of a text, a script for the
 -- text of a number, one for each, the moves that lead to the text of a number, as lines or as a diagram, how many texts
--- have each answer, where the texts of two numbers differ, the verdict on a claim about what entries show, or the lines
--- that race
+-- have each answer, where the texts of two numbers differ, the verdict on a claim about what entries show, the lines that
+-- race, or a script that shows the race of a number
 pub data Sought : Type 0 where
   all_texts : Sought
   a_claim : Claim → Text → Sought
@@ -128,6 +128,7 @@ pub data Sought : Type 0 where
   a_difference : ℕ → ℕ → Sought
   a_state_claim : Text → Sought
   all_races : Sought
+  one_race : ℕ → Sought
 
 -- To play a script, to run one, to explore one, to find the text of a file among its texts, to list a policy, to list
 -- the rules, to check a policy or a script, to check a policy against the neverallow statements of a file, to explain
@@ -219,10 +220,17 @@ abbrev pub state_option : Option Text → Option (Option Sought)
 state_option None = Some None
 state_option (Some claim) = Some (Some (a_state_claim claim))
 
--- `--races`, if it is given
-abbrev pub races_option : Bool → Option (Option Sought)
-races_option true = Some (Some all_races)
-races_option false = Some None
+-- what is sought beside the flag `--races`: nothing, or the script of one number; nothing else goes with it
+abbrev pub sought_of_races : Option Sought → Option (Option Sought)
+sought_of_races None = Some (Some all_races)
+sought_of_races (Some (one_script number)) = Some (Some (one_race number))
+sought_of_races (Some _) = None
+
+-- the same, with `--races` or without it; nothing if an option does not take its value
+abbrev pub with_races : Bool → Option (Option Sought) → Option (Option Sought)
+with_races false sought = sought
+with_races true None = None
+with_races true (Some sought) = sought_of_races sought
 
 -- `--find EXPR`, `--never EXPR` or `--always EXPR`, of which only one may be given
 abbrev pub claim_of : Option Text → Option Text → Option Text → Option (Option Sought)
@@ -301,11 +309,14 @@ diagram_of (Some a_summary) = None
 diagram_of (Some (a_difference one other)) = None
 diagram_of (Some (a_state_claim claim)) = None
 diagram_of (Some all_races) = None
+diagram_of (Some (one_race number)) = None
 
--- what is sought is answered in text only: the verdict on a claim about what entries show, or the lines that race
+-- what is sought is answered in text only: the verdict on a claim about what entries show, the lines that race, or the
+-- script of a race
 abbrev pub is_text_only : Option Sought → Bool
 is_text_only (Some (a_state_claim claim)) = true
 is_text_only (Some all_races) = true
+is_text_only (Some (one_race number)) = true
 is_text_only _ = false
 
 -- what is sought as JSON
@@ -384,7 +395,7 @@ read Run value = run_with (format_of (value (codes "format"))) (is_true (value (
     (is_true (value (codes "verbose"))) (value (codes "file"))
 read Explore value = explore_with
     (formed_of
-    (sought_too
+    (with_races (is_true (value (codes "races")))
     (sought_too
     (sought_too
     (sought_too
@@ -393,8 +404,7 @@ read Explore value = explore_with
     (value (codes "claims")))
     (witness_of (value (codes "witness"))) (trace_option (value (codes "trace"))))
     (summary_option (is_true (value (codes "summary"))))) (diff_option (value (codes "diff"))))
-    (state_option (value (codes "never-state"))))
-    (races_option (is_true (value (codes "races")))))
+    (state_option (value (codes "never-state")))))
     (explore_form_of (value (codes "format")))) (value (codes "has"))
     (states_of (value (codes "states"))) (value (codes "file"))
 read Policy value = list_with (format_of (value (codes "format"))) (is_true (value (codes "verbose")))
@@ -463,6 +473,7 @@ sought_by explorations.Summary = a_summary
 sought_by (explorations.Difference one other) = a_difference one other
 sought_by (explorations.NeverState claim) = a_state_claim claim.now
 sought_by explorations.Races = all_races
+sought_by (explorations.RaceWitness number) = one_race number
 
 -- what a plan asks for
 abbrev pub asked_by_plan : Invocation → Request

@@ -96,14 +96,16 @@ Options:
 EXPR is terms with ! (not), & (and), | (or) and brackets: WORD (an answer has
 it), LINE=ANSWER (the answer to this line of the script begins so), ID:ANSWER (an
 answer of this domain does). LINE may be a NAME: `do 1 revoke 0 as NAME`. A term
-that no answer can meet is refused. LINE<LINE, joined by & alone in a single
---find or --never, is a run in which the first call is answered before the second
-begins. Several claims are decided by one search, and print a line each.
+that no answer can meet is refused. LINE<LINE, in a single claim, is a run in which
+the first call is answered before the second begins. Several claims are decided
+together, and print a line each.
 
 S is terms ID.REF:WORD with ! (not), & (and) and | (or), without brackets: entry
 REF of domain ID shows WORD, which is none, invalid, page, sub, via, rw, ro, or
 FIELD=N, FIELD<N or FIELD>N, for a FIELD that `show` prints: frame, off, len, to,
 ref, gen, reads or writes; or for grantee, the domain after the kind.
+
+With --races, --witness <N> prints a script for `play` that shows race N.
 
 A call `maybe ID CALL` of the script may be left out, and the list of a domain may
 end at a line `leave ID`.

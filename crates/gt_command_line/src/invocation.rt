@@ -93,6 +93,8 @@ pub enum Exploration<'a> {
     NeverState(&'a str),
     /// The pairs of lines that race.
     Races,
+    /// A script that shows the race of this number.
+    RaceWitness(usize),
 }
 
 /// The options of `explore` beside what it is asked for.

@@ -17,8 +17,8 @@ use crate::exploring::{explore_with, formed_of, one_sought};
 use crate::invocation::{Invocation, MODES, Mode, MoreFiles};
 use crate::line::gthost_command;
 use crate::values::{
-    claim_of, claims_of, diff_of, form_of, format_of, races_of, script_of, sought_too,
-    state_claim_of, states_of, summary_of, trace_of, version_of, witness_of,
+    claim_of, claims_of, diff_of, form_of, format_of, script_of, sought_too, state_claim_of,
+    states_of, summary_of, trace_of, version_of, with_races, witness_of,
 };
 use clap::error::ErrorKind;
 use clap::{ArgMatches, Error};
@@ -90,9 +90,8 @@ fn read_explore<'a>(matches: &ArgMatches<'a>) -> Option<Invocation<'a>>
     let summary = summary_of(is_set(matches, "summary"));
     let diff = diff_of(value_of(matches, "diff"));
     let state = state_claim_of(value_of(matches, "never-state"));
-    let races = races_of(is_set(matches, "races"));
     let texts = sought_too(sought_too(one_sought(claim, witness, trace), summary), diff);
-    let sought = sought_too(sought_too(texts, state), races);
+    let sought = with_races(is_set(matches, "races"), sought_too(texts, state));
     let form = form_of(value_of(matches, "format"));
     explore_with(
         formed_of(sought, form),
@@ -210,6 +209,11 @@ pub(crate) fn usage_text(mode: Option<Mode>) -> &'static str {
     }
 }
 
+// The refusal of options that don't go together.
+const ONE_ALONE: &str =
+    "only claims (--find, --never, --always), or one of --claims, --never-state, --races, --has, \
+    --witness, --trace, --summary and --diff can be given, or --races with --witness";
+
 // Returns what the option of `explore` takes whose value is refused, and the value.
 fn refused_by_explore<'a>(matches: &ArgMatches<'a>) -> (&'static str, Option<&'a str>) {
     let witness = value_of(matches, "witness");
@@ -233,11 +237,10 @@ fn refused_by_explore<'a>(matches: &ArgMatches<'a>) -> (&'static str, Option<&'a
         ("--format json is not for --never-state", None)
     } else if format == Some("json") && is_set(matches, "races") {
         ("--format json is not for --races", None)
+    } else if is_set(matches, "races") && witness == Some("all") {
+        ("--witness takes a number with --races", witness)
     } else {
-        (
-            "only claims (--find, --never, --always), or one of --claims, --never-state, --races, --has, --witness, --trace, --summary and --diff can be given",
-            None,
-        )
+        (ONE_ALONE, None)
     }
 }
 

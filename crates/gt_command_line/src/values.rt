@@ -1,9 +1,10 @@
 //! The values of options.
 ghost use Rattle.std.specs.Prelude.{◌≡◌};
 ghost use Rattle.std.specs.Option.{option_map};
-ghost use Rattle.gt_command_line.specs.Commands.{diagram_of, explore_form_of, format_of, formed, domain_number, number_up_to, script_of, states_of, type_of};
+ghost use Rattle.gt_command_line.specs.Commands.{diagram_of, explore_form_of, format_of, formed, domain_number};
+ghost use Rattle.gt_command_line.specs.Commands.{number_up_to, script_of, states_of, type_of};
 ghost use Rattle.gt_command_line.specs.Commands.{claim_of, claims_of, diff_option, sought_of, sought_by, sought_too};
-ghost use Rattle.gt_command_line.specs.Commands.{is_text_only, json_of, races_option, state_option};
+ghost use Rattle.gt_command_line.specs.Commands.{is_text_only, json_of, sought_of_races, state_option, with_races};
 ghost use Rattle.gt_command_line.specs.Commands.{summary_option, trace_option, version_of, witness_of};
 
 use crate::invocation::{Exploration, Format};
@@ -57,16 +58,19 @@ fn diagram_of<'a>(sought: Option<Exploration<'a>>) -> Option<(Option<Exploration
         Some(Exploration::Decide { .. } | Exploration::Claims(_)) => None,
         Some(Exploration::Witness(_) | Exploration::Diagram(_)) => None,
         Some(Exploration::Summary | Exploration::Difference(_, _)) => None,
-        Some(Exploration::NeverState(_) | Exploration::Races) => None,
+        Some(Exploration::NeverState(_)) => None,
+        Some(Exploration::Races | Exploration::RaceWitness(_)) => None,
     }
 }
 
-// Returns whether what is asked for is answered in text only: a claim about states, or the lines that race.
+// Returns whether what is asked for is answered in text only: a claim about states, the lines that race, or the script
+// of a race.
 fn is_text_only(sought: Option<Exploration<'_>>) -> bool
     ensures { result ≡ is_text_only (option_map sought_by sought.entry) }
 {
     match sought {
-        Some(Exploration::NeverState(_) | Exploration::Races) => true,
+        Some(Exploration::NeverState(_)) => true,
+        Some(Exploration::Races | Exploration::RaceWitness(_)) => true,
         None => false,
         Some(Exploration::Texts | Exploration::Witnesses) => false,
         Some(Exploration::Decide { .. } | Exploration::Claims(_)) => false,
@@ -86,8 +90,8 @@ fn json_of<'a>(sought: Option<Exploration<'a>>) -> Option<(Option<Exploration<'a
     Some((sought, Format::Json))
 }
 
-/// Returns what is asked for in this form, with its format. Only a trace can be a diagram. A claim about states and the
-/// lines that race are answered in text only.
+/// Returns what is asked for in this form, with its format. Only a trace can be a diagram. A claim about states, the
+/// lines that race and the script of a race are answered in text only.
 pub(crate) fn formed<'a>(
     form: ExploreForm,
     sought: Option<Exploration<'a>>,
@@ -196,14 +200,30 @@ pub(crate) fn summary_of<'a>(is_given: bool) -> Option<Option<Exploration<'a>>>
     }
 }
 
-/// Returns what `--races` asks for, if it is given.
-pub(crate) fn races_of<'a>(is_given: bool) -> Option<Option<Exploration<'a>>>
-    ensures { option_map (option_map sought_by) result ≡ races_option is_given }
+// Returns what `--races` asks for beside another option. None if that doesn't go with it.
+fn sought_of_races<'a>(sought: Option<Exploration<'a>>) -> Option<Option<Exploration<'a>>>
+    ensures { option_map (option_map sought_by) result ≡ sought_of_races (option_map sought_by sought.entry) }
+{
+    match sought {
+        None => Some(Some(Exploration::Races)),
+        Some(Exploration::Witness(number)) => Some(Some(Exploration::RaceWitness(number))),
+        Some(_) => None,
+    }
+}
+
+/// Returns what is asked for with `--races`, if it is given, or without it. The outer result is None if an option does
+/// not take its value, or if one is given that doesn't go with `--races`.
+pub(crate) fn with_races<'a>(
+    is_given: bool,
+    sought: Option<Option<Exploration<'a>>>,
+) -> Option<Option<Exploration<'a>>>
+    ensures { option_map (option_map sought_by) result
+        ≡ with_races is_given (option_map (option_map sought_by) sought.entry) }
 {
     if is_given {
-        Some(Some(Exploration::Races))
+        sought_of_races(sought?)
     } else {
-        Some(None)
+        sought
     }
 }
 

@@ -1,25 +1,23 @@
 //! The reasons that are printed after the line of a fault, or as that line.
 use crate::copying::KeptInput;
 use crate::dumps::{dump_reason, look_said};
+use crate::exploring::{choices_reason, claims_reason, race_reason, state_reason};
 use crate::flows::flow_reason;
 use crate::given::{
     bare_reason, given_reason, never_reason, nothing_reason, question_reason, text_reason,
 };
 use crate::names::shown_name;
+use crate::scripts::{fault_reason, play_refusals, run_refusals};
 use gt_command_line::Invocation;
 use gt_entries::{DumpFault, DumpOptions};
 use gt_explore_choices::ChoicesFault;
-use gt_explore_faults::{ClaimsFault, ExploreFault, TextsFault};
+use gt_explore_faults::{ClaimsFault, ExploreFault};
 use gt_fault_reasons::{
-    push_permission_reason, push_read_reason, push_refusals, push_script_reason, push_type_reason,
-    push_utf8_reason,
+    push_permission_reason, push_read_reason, push_type_reason, push_utf8_reason,
 };
-use gt_host::play;
 use gt_policy_list::ListingFault;
 use gt_policy_questions::FlowQuestion;
-use gt_policy_reasons::{
-    BreachFault, FlowFault, NeverText, WhyFault, push_block_reason, push_policy_reason,
-};
+use gt_policy_reasons::{BreachFault, FlowFault, NeverText, WhyFault, push_policy_reason};
 use gt_policy_statements::WhyQuestion;
 use gt_script_runs::PlayFault;
 use gt_state_claims::StateClaimFault;
@@ -47,55 +45,6 @@ fn named<'a>(verbose: bool, file: Option<&'a str>) -> Option<&'a str> {
     }
 }
 
-// Returns the reason for which the script that was read was refused.
-fn fault_reason(
-    alloc: Global,
-    file: &str,
-    is_line: bool,
-    input: &KeptInput,
-    fault: &PlayFault,
-) -> Result<Vec<u8>, AllocError> {
-    let mut said = Vec::new(alloc);
-    let Some(bytes) = input.bytes() else {
-        return Ok(said);
-    };
-    match fault {
-        PlayFault::Script(fault) => push_script_reason(alloc, &mut said, file, bytes, fault)?,
-        PlayFault::Policy(fault) => push_block_reason(alloc, &mut said, file, bytes, fault)?,
-        PlayFault::Read => push_unread(&mut said, file, is_line, input.fault())?,
-        PlayFault::Memory | PlayFault::Write => {}
-    }
-    Ok(said)
-}
-
-// Returns the near misses of what the policy refused when the script that was read was played. It is played again,
-// since a play of a script always has the same output.
-fn play_refusals(alloc: Global, file: &str, input: &KeptInput) -> Result<Vec<u8>, AllocError> {
-    let mut said = Vec::new(alloc);
-    let mut text = Vec::new(alloc);
-    if let Some(bytes) = input.bytes() {
-        let mut reader = bytes;
-        if play(alloc, &mut reader, &mut text, false).is_ok() {
-            push_refusals(alloc, &mut said, file, bytes, text.as_slice())?;
-        }
-    }
-    Ok(said)
-}
-
-// Returns the near misses of what the policy refused when the script that was read was run, and wrote this text.
-fn run_refusals(
-    alloc: Global,
-    file: &str,
-    input: &KeptInput,
-    text: &[u8],
-) -> Result<Vec<u8>, AllocError> {
-    let mut said = Vec::new(alloc);
-    if let Some(bytes) = input.bytes() {
-        push_refusals(alloc, &mut said, file, bytes, text)?;
-    }
-    Ok(said)
-}
-
 /// Returns why a file was not read, from the words of the system.
 pub(crate) fn read_words<'w>(said: &'w [u8]) -> &'w [u8] {
     if said.starts_with(b"No such file") {
@@ -109,8 +58,8 @@ pub(crate) fn read_words<'w>(said: &'w [u8]) -> &'w [u8] {
     }
 }
 
-// Appends why a file was not read: in the words of the system, or in fewer words if the reason is a separate line.
-fn push_unread(
+/// Appends why a file was not read: in the words of the system, or in fewer words if the reason is a separate line.
+pub(crate) fn push_unread(
     out: &mut Vec<u8>,
     file: &str,
     is_line: bool,
@@ -187,89 +136,6 @@ fn why_reason(
         }
     }
     Ok(said)
-}
-
-// Returns a reason of these words.
-fn words_reason(alloc: Global, file: &str, words: &str) -> Result<Vec<u8>, AllocError> {
-    let mut said = Vec::new(alloc);
-    push_read_reason(&mut said, file, words.as_bytes())?;
-    Ok(said)
-}
-
-// Returns the reason for which a script was not explored, or nothing if memory ran out.
-fn explore_reason(
-    alloc: Global,
-    file: &str,
-    is_line: bool,
-    input: &KeptInput,
-    fault: &ExploreFault,
-) -> Result<Vec<u8>, AllocError> {
-    match fault {
-        ExploreFault::Play(fault) => fault_reason(alloc, file, is_line, input, fault),
-        ExploreFault::Number => words_reason(alloc, file, "no output has this number"),
-        ExploreFault::Unfound => {
-            let words = "none of the outputs found has this number; raise --states";
-            words_reason(alloc, file, words)
-        }
-        ExploreFault::Texts(TextsFault::States) => {
-            let words = "the search met more states or answers than it can number";
-            words_reason(alloc, file, words)
-        }
-        ExploreFault::Texts(TextsFault::Astray) => {
-            words_reason(
-                alloc,
-                file,
-                "a witness went astray, which is a bug of gthost",
-            )
-        }
-        ExploreFault::Term { .. } | ExploreFault::Text { .. } => {
-            let words = format!(in alloc; "{fault}")?;
-            words_reason(alloc, file, words.as_str())
-        }
-        ExploreFault::Texts(TextsFault::Memory) => Ok(Vec::new(alloc)),
-    }
-}
-
-// Returns the same for a script with claims.
-fn claims_reason(
-    alloc: Global,
-    file: &str,
-    is_line: bool,
-    input: &KeptInput,
-    fault: &ClaimsFault,
-) -> Result<Vec<u8>, AllocError> {
-    match fault {
-        ClaimsFault::Explore(fault) => explore_reason(alloc, file, is_line, input, fault),
-        ClaimsFault::Kind(_)
-        | ClaimsFault::Term { .. }
-        | ClaimsFault::Repeated { .. }
-        | ClaimsFault::Precedence(_) => {
-            let words = format!(in alloc; "{fault}")?;
-            words_reason(alloc, file, words.as_str())
-        }
-        ClaimsFault::Astray => {
-            let words = "an expression went astray, which is a bug of gthost";
-            words_reason(alloc, file, words)
-        }
-    }
-}
-
-// Returns the reason for which the choices of a script were not explored, or nothing if memory ran out.
-fn choices_reason(alloc: Global, file: &str, fault: ChoicesFault) -> Result<Vec<u8>, AllocError> {
-    if fault == ChoicesFault::Memory {
-        return Ok(Vec::new(alloc));
-    }
-    let words = format!(in alloc; "{fault}")?;
-    words_reason(alloc, file, words.as_str())
-}
-
-// Returns the reason for which a claim about the states of a script was not decided, or nothing if memory ran out.
-fn state_reason(alloc: Global, file: &str, fault: StateClaimFault) -> Result<Vec<u8>, AllocError> {
-    if fault == StateClaimFault::Memory {
-        return Ok(Vec::new(alloc));
-    }
-    let words = format!(in alloc; "{fault}")?;
-    words_reason(alloc, file, words.as_str())
 }
 
 impl<'a> Reasons<'a> {
@@ -446,6 +312,14 @@ impl<'a> Reasons<'a> {
     pub fn add_explore(&mut self, input: &KeptInput, fault: &ClaimsFault) {
         if let Some(file) = self.file {
             let said = claims_reason(self.alloc, file, self.is_line, input, fault);
+            self.add(said);
+        }
+    }
+
+    /// Adds the reason for which the races of the script that was read were not found, or no script shows one of them.
+    pub fn add_race(&mut self, input: &KeptInput, fault: &ExploreFault) {
+        if let Some(file) = self.file {
+            let said = race_reason(self.alloc, file, self.is_line, input, fault);
             self.add(said);
         }
     }

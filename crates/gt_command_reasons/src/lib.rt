@@ -16,9 +16,11 @@
 mod collecting;
 mod copying;
 mod dumps;
+mod exploring;
 mod flows;
 mod given;
 mod names;
+mod scripts;
 
 pub use collecting::Reasons;
 pub use copying::{CopyingReader, KeptInput};

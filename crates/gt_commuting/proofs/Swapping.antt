@@ -14,7 +14,10 @@ use Rattle.gt_core.proofs.Words.{false≢true, Entry, holder_after, Any, EntryCh
 use Rattle.gt_core.proofs.Words.{header_stored, header_or, one_if_mapped, nat_lt, nat_le, reverse, sum_by-cons, ◌&&◌}
 use Rattle.gt_model.specs.declared.action.Action.TheVariants as actions
 use Rattle.gt_model.specs.declared.action.Step.TheVariants as call_steps
+use Rattle.std.specs.Prelude.{not}
+use Rattle.gt_core.proofs.Words.{◌||◌}
 use Rattle.gt_commuting.specs.Swapping.{touches_entry, looks_header, stores_header, reads_frames, writes_frames}
+use Rattle.gt_commuting.specs.Swapping.{looks_body, stores_body}
 use Rattle.gt_commuting.specs.Swapping.{ReleasesNoPinOn, LeavesFor, TouchApart, with_holder, own_pins, SameEntry}
 use Rattle.gt_commuting.specs.Swapping.{SameOwn, SameLook, SameSight, SameSeen, patches_of, AreApart}
 use Rattle.gt_model.proofs.Observers.{exchanged-entry, exchanged-raises, kept-entry, kept-raises, kept-table}
@@ -1120,6 +1123,37 @@ word-left h d z seen a t r off keeps = (
   λ body_word. unstored (made_step d z seen a) h t r body_word refl,
 )
 
+-- a look at a body word changes nothing
+look-left : (h : History) (d : DomId) (z : Step) (seen : Observation) (a : Option Answer) (t r : ℕ) → looks_body z ≡ true
+    → LeavesWord h (made_step d z seen a) t r
+look-left h d (LookBody dom gref which) seen a t r is = (
+  leaves-entry h (made_step d (LookBody dom gref which) seen a) t r (cond-same (d.0 == t) None)
+      (λ k. step-count h (made_step d (LookBody dom gref which) seen a) t r k refl refl),
+  λ body_word. unstored (made_step d (LookBody dom gref which) seen a) h t r body_word refl,
+)
+look-left h d z seen a t r is = absurd (false≢true is)
+
+-- only a store of a body word changes one
+unstored-body : (h : History) (d : DomId) (z : Step) (seen : Observation) (a : Option Answer) (t r : ℕ) (body_word : BodyWord)
+    → stores_body z ≡ false → body_at (made_step d z seen a ∷ h) t r body_word ≡ body_at h t r body_word
+unstored-body h d (StoreBody gref which w) seen a t r body_word is = absurd (false≢true (sym is))
+unstored-body h d z seen a t r body_word is = unstored (made_step d z seen a) h t r body_word refl
+
+elsewhere-body : (h : History) (d : DomId) (z : Step) (seen : Observation) (a : Option Answer) (t r : ℕ) (body_word : BodyWord)
+    → touches_entry d z t r ≡ false → body_at (made_step d z seen a ∷ h) t r body_word ≡ body_at h t r body_word
+elsewhere-body h d (StoreBody gref which w) seen a t r body_word off =
+    body-left h (made_step d (StoreBody gref which w) seen a) t r body_word
+    (cond-three (d.0 == t) (gref.0 == r) (same_body_word which body_word) (Some w) off)
+elsewhere-body h d z seen a t r body_word off = unstored (made_step d z seen a) h t r body_word refl
+
+plain-leaves : (a b c : Bool) → (a || (b && c)) ≡ true → b ≡ false → a ≡ true
+plain-leaves a b c is off = grind arith
+
+body-leaves : (a b : Bool) → (a || (true && not b)) ≡ true → (a ≡ true) ⊎ (b ≡ false)
+body-leaves true b is = inl refl
+body-leaves false true is = absurd (false≢true is)
+body-leaves false false is = inr refl
+
 table-left : (s : Setting) (h : History) (d : DomId) (z : Step) (seen : Observation) (a : Option Answer) (t : DomId)
     → stores_header d z t.0 ≡ false → table_at s (made_step d z seen a ∷ h) t ≡ table_at s h t
 table-left s h d (StoreHeader version frames) seen a t off =
@@ -1155,9 +1189,25 @@ not-true false none = refl
 step-look : (s : Setting) (h : History) (d : DomId) (y : Step) (v : Observation) (a : Option Answer) (e : DomId) (z : Step)
     → LeavesFor h d y e z → SameLook s (made_step d y v a ∷ h) h e z
 step-look s h d y v a e z leaves = by z leaves where
-  word : (x : Step) (t r : ℕ) → LeavesFor h d y e x → touches_entry e x t r ≡ true
+  word : (x : Step) (t r : ℕ) → LeavesFor h d y e x → touches_entry e x t r ≡ true → looks_body x ≡ false
       → LeavesWord h (made_step d y v a) t r
-  word x t r l on = word-left h d y v a t r (not-true (touches_entry d y t r) (λ yes. l.words t r yes on)) (l.pins t r on)
+  word x t r l on plain = of (touches_entry d y t r) refl where
+    of : (b : Bool) → touches_entry d y t r ≡ b → LeavesWord h (made_step d y v a) t r
+    of false off = word-left h d y v a t r off (l.pins t r on plain)
+    of true at = look-left h d y v a t r
+        (plain-leaves (looks_body y) (looks_body x) (not (stores_body y)) (l.words t r at on) plain)
+
+  body : (dom : DomId) (gref : GrantRef) (which : BodyWord) → LeavesFor h d y e (LookBody dom gref which)
+      → body_at (made_step d y v a ∷ h) dom.0 gref.0 which ≡ body_at h dom.0 gref.0 which
+  body dom gref which l = of (touches_entry d y dom.0 gref.0) refl where
+    of : (b : Bool) → touches_entry d y dom.0 gref.0 ≡ b
+        → body_at (made_step d y v a ∷ h) dom.0 gref.0 which ≡ body_at h dom.0 gref.0 which
+    of false off = elsewhere-body h d y v a dom.0 gref.0 which off
+    of true at = by-kind (body-leaves (looks_body y) (stores_body y) (l.words dom.0 gref.0 at (both-same dom.0 gref.0))) where
+      by-kind : (looks_body y ≡ true) ⊎ (stores_body y ≡ false)
+          → body_at (made_step d y v a ∷ h) dom.0 gref.0 which ≡ body_at h dom.0 gref.0 which
+      by-kind (inl is) = (look-left h d y v a dom.0 gref.0 is).1 which
+      by-kind (inr is) = unstored-body h d y v a dom.0 gref.0 which is
 
   table : (x : Step) (t : DomId) → LeavesFor h d y e x → looks_header x t.0 ≡ true
       → table_at s (made_step d y v a ∷ h) t ≡ table_at s h t
@@ -1169,10 +1219,10 @@ step-look s h d y v a e z leaves = by z leaves where
 
   by : (x : Step) → LeavesFor h d y e x → SameLook s (made_step d y v a ∷ h) h e x
   by (LookHeader dom) l = table (LookHeader dom) dom l (is-same dom.0)
-  by (LookControl dom gref) l = (word (LookControl dom gref) dom.0 gref.0 l (both-same dom.0 gref.0)).0
-  by (LookBody dom gref body_word) l = (word (LookBody dom gref body_word) dom.0 gref.0 l (both-same dom.0 gref.0)).1 body_word
-  by (call_steps.Pin p) l = (word (call_steps.Pin p) p.dom.0 p.gref.0 l (both-same p.dom.0 p.gref.0)).0
-  by (Exchange gref looked change) l = word (Exchange gref looked change) e.0 gref.0 l (both-same e.0 gref.0)
+  by (LookControl dom gref) l = (word (LookControl dom gref) dom.0 gref.0 l (both-same dom.0 gref.0) refl).0
+  by (LookBody dom gref body_word) l = body dom gref body_word l
+  by (call_steps.Pin p) l = (word (call_steps.Pin p) p.dom.0 p.gref.0 l (both-same p.dom.0 p.gref.0) refl).0
+  by (Exchange gref looked change) l = word (Exchange gref looked change) e.0 gref.0 l (both-same e.0 gref.0) refl
   by (call_steps.Read dom frame off len) l = bytes (call_steps.Read dom frame off len) dom.0 frame l (is-same dom.0)
   by (call_steps.Copy from to len) l = bytes (call_steps.Copy from to len) from.frame.owner.0 from.frame.number l
       (is-same from.frame.owner.0)

@@ -1,5 +1,5 @@
 -- When two histories look the same, and when the items of two domains may change places.
-use Rattle.std.specs.Prelude.{◌≡◌, ◌⊎◌, ◌==◌, ◌&&◌, ℕ, Bool, true, false, List, [], ◌∷◌, count_by}
+use Rattle.std.specs.Prelude.{◌≡◌, ◌⊎◌, ◌==◌, ◌&&◌, ◌||◌, not, ℕ, Bool, true, false, List, [], ◌∷◌, count_by}
 use Rattle.gt_core.specs.Prelude.{DomId, PinHolder, HeldPin, Step, LookHeader, LookControl, LookBody, Exchange, Request}
 use Rattle.gt_core.specs.Prelude.{Observation, StoreBody, StoreHeader, Unpin, BodyWord, Item, ItemEvent, Began, Stepped}
 use Rattle.gt_core.specs.Prelude.{Patch, Dir}
@@ -105,6 +105,20 @@ touches_entry d (call_steps.Pin p) t r = (p.dom.0 == t) && (p.gref.0 == r)
 touches_entry d (Exchange gref looked change) t r = (d.0 == t) && (gref.0 == r)
 touches_entry d step t r = false
 
+-- the step looks at a body word, which only a store of one changes; it stores one
+abbrev pub looks_body : Step → Bool
+looks_body (LookBody dom gref body_word) = true
+looks_body step = false
+
+abbrev pub stores_body : Step → Bool
+stores_body (StoreBody gref body_word word) = true
+stores_body step = false
+
+-- the first step leaves what the second one looks at of an entry that both touch: the first only looks at a body word, or
+-- the second one does, and the first stores none
+abbrev pub leaves_body : Step → Step → Bool
+leaves_body y z = looks_body y || (looks_body z && not (stores_body y))
+
 -- the step looks at the header of domain t
 abbrev pub looks_header : Step → ℕ → Bool
 looks_header (LookHeader dom) t = dom.0 == t
@@ -133,14 +147,15 @@ ReleasesNoPinOn h d (Unpin p holder) t r =
     (k : Dir) → count_by (is_pin_on t r k) (without d.0 holder (live h)) ≡ count_by (is_pin_on t r k) (live h)
 ReleasesNoPinOn h d step t r = Unit {0}
 
--- a step of domain d leaves what one of domain e looks at: the words of entries with their pins, headers, and bytes
+-- a step of domain d leaves what one of domain e looks at: the words of entries with their pins, headers, and bytes. No
+-- pin is part of a body word
 pub record LeavesFor (h : History) (d : DomId) (y : Step) (e : DomId) (z : Step) : Type 0 where
-  pub words : (t r : ℕ) → touches_entry d y t r ≡ true → touches_entry e z t r ≡ true → ⊥
-  pub pins : (t r : ℕ) → touches_entry e z t r ≡ true → ReleasesNoPinOn h d y t r
+  pub words : (t r : ℕ) → touches_entry d y t r ≡ true → touches_entry e z t r ≡ true → leaves_body y z ≡ true
+  pub pins : (t r : ℕ) → touches_entry e z t r ≡ true → looks_body z ≡ false → ReleasesNoPinOn h d y t r
   pub header : (t : ℕ) → stores_header d y t ≡ true → looks_header z t ≡ true → ⊥
   pub bytes : (t : ℕ) → writes_frames y t ≡ true → reads_frames z t ≡ true → ⊥
 
--- two steps touch nothing in common: either leaves what the other one looks at, and they write to frames of other
+-- two steps touch nothing in common that one of them changes: either leaves what the other one looks at, and they write to frames of other
 -- owners
 pub record TouchApart (h : History) (d : DomId) (y : Step) (e : DomId) (z : Step) : Type 0 where
   pub actors : (d.0 == e.0) ≡ false

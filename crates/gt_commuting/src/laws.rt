@@ -18,9 +18,10 @@ pub fn every_beginning_is_apart()
     ensures { BeginningsAreApart }
 {}
 
-/// Proves that steps of different domains do not disturb each other if they touch nothing in common: no entry, no
-/// header that one of them stores, and no frames of an owner to which one of them writes. An unpin touches the entries
-/// on which it releases a pin.
+/// Proves that steps of different domains do not disturb each other if they touch nothing in common that one of them
+/// changes: no entry, no header that one of them stores, and no frames of an owner to which one of them writes. An unpin
+/// touches the entries on which it releases a pin. A look at a body word of an entry disturbs no step on that entry, and
+/// only a store of a body word disturbs it.
 pub fn steps_that_touch_apart_are_apart()
     ensures { StepsThatTouchApartAreApart }
 {}

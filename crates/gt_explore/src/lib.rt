@@ -1,6 +1,6 @@
 //! The texts that a script for `run` may give, over all orders of its domains' moves: the command `explore`.
 //!
-//! [`texts_of`] searches for orders (`gt_explore_moves`) and replays each of them on the core (`gt_explore_replay`).
+//! [`texts_found`] searches for orders (`gt_explore_moves`) and replays each of them on the core (`gt_explore_replay`).
 //! [`explore`] reads a script, finds its texts once, and writes the answer that `gt_explore_answers` makes of them: the
 //! texts, each with its number, the verdict on a claim, the lines of a script for `play` that gives one of them, or the
 //! moves that lead to one.
@@ -22,4 +22,4 @@ pub use deciding::{ClaimTest, TextsTest, texts_enough};
 pub use exploring::{explore, explore_bytes, explore_script};
 pub use gt_explore_answers::{ExploreFormat, ExploreOptions, ExploreRequest, FoundTexts};
 pub use gt_explore_faults::{ExploreFault, TextsFault};
-pub use texts::{add_order, in_order, texts_found, texts_of, texts_within};
+pub use texts::{add_order, in_order, texts_found};

@@ -1,5 +1,5 @@
 //! The texts that a script may give.
-ghost use Rattle.std.specs.Prelude.{◌≡◌, ℕ, List, Some, slice_get, All, IfOk, IsTrue, OnOk};
+ghost use Rattle.std.specs.Prelude.{◌≡◌, ℕ, Some, slice_get, All, IfOk, OnOk};
 ghost use Rattle.std.specs.List.Sorted.{IsPermutation};
 ghost use Rattle.gt_script.specs.Contents.{contents_of};
 ghost use Rattle.gt_script.specs.RunContents.{run_contents};
@@ -8,7 +8,7 @@ ghost use Rattle.gt_script.specs.Stuck.{AreNumbered};
 ghost use Rattle.gt_explore_replay.specs.Orders.{MayGive};
 ghost use Rattle.gt_explore_search.specs.declared.exploring.FoundText.{FoundText};
 ghost use Rattle.gt_explore.specs.Adding.{AddsOrder, last_compared};
-ghost use Rattle.gt_explore_answers.specs.Texts.{AreAscending, AreDifferentTexts, IsTextAmong, texts_of_orders};
+ghost use Rattle.gt_explore_answers.specs.Texts.{AreAscending, IsTextAmong, texts_of_orders};
 ghost use Rattle.gt_explore_answers.specs.Exploring.{AreTextsOf};
 ghost use Rattle.gt_explore_answers.specs.Outputs.{found_from};
 
@@ -16,7 +16,7 @@ use gt_explore_answers::FoundTexts;
 use gt_explore_faults::TextsFault;
 use gt_explore_moves::search_within;
 use gt_explore_replay::text_of;
-use gt_explore_search::{FoundText, SearchWatch, Unwatched};
+use gt_explore_search::{FoundText, SearchWatch};
 use gt_script::RunScript;
 use std::alloc::{AllocError, Global};
 use std::cmp::Ordering;
@@ -103,26 +103,17 @@ fn distinct(
     Ok(texts)
 }
 
-/// Returns texts that a script may give: all of them if the search meets at most `limit` states and its watch does not
-/// end it, and otherwise those that it found until then. They are complete only if the script's flags are numbered, as
-/// parsing numbers them.
-///
-/// # Errors
-/// `Astray` if the search found an order that the core does not follow to its text, or a run that returned to a state;
-/// `States` if the search has too many states to number; and `Memory`.
-pub fn texts_within<T: SearchWatch>(
+// Returns texts that a script may give: all of them if the search meets at most `limit` states and its watch does not
+// end it, and otherwise those that it found until then.
+fn texts_within<T: SearchWatch>(
     alloc: Global,
     script: &RunScript,
     limit: usize,
     watch: &mut T,
 ) -> Result<FoundTexts, TextsFault>
-    requires { CanConfigure (contents_of script.now.head) }
-    ensures possible { IfOk result (λ all. All (MayGive (run_contents script.now)) (texts_of_orders all.texts.items)) }
-    ensures whole { (text : List ℕ) → AreNumbered script.now.flags script.now.tasks →
-        MayGive (run_contents script.now) text →
-        IfOk result (λ all. IsTrue all.whole → IsTextAmong text (texts_of_orders all.texts.items)) }
-    ensures ascending { IfOk result (λ all. AreAscending (texts_of_orders all.texts.items)) }
-    ensures apart { IfOk result (λ all. AreDifferentTexts (texts_of_orders all.texts.items)) }
+    requires fits { CanConfigure (contents_of script.now.head) }
+    requires numbered { AreNumbered script.now.flags script.now.tasks }
+    ensures { IfOk result (λ all. AreTextsOf (run_contents script.now) (found_from all)) }
 {
     let partial = search_within(alloc, script, limit, watch)?;
     let whole = partial.whole;
@@ -153,26 +144,13 @@ impl<T: SearchWatch> SearchWatch for CountingWatch<'_, T> {
     }
 }
 
-// Returns what `texts_within` does. It has one clause, so the proof goals of a caller are smaller.
-fn texts_counted<T: SearchWatch>(
-    alloc: Global,
-    script: &RunScript,
-    limit: usize,
-    watch: &mut CountingWatch<'_, T>,
-) -> Result<FoundTexts, TextsFault>
-    requires fits { CanConfigure (contents_of script.now.head) }
-    requires numbered { AreNumbered script.now.flags script.now.tasks }
-    ensures { IfOk result (λ all. AreTextsOf (run_contents script.now) (found_from all)) }
-{
-    let all = texts_within(alloc, script, limit, watch)?;
-    Ok(all)
-}
-
-/// Returns texts that a script may give, as [`texts_within`] does. Want of memory ends a search as its limit does: the
-/// texts are then those of a search with a limit of half the states met.
+/// Returns texts that a script may give, in the order of their bytes: all of them if the search meets at most `limit`
+/// states and its watch does not end it, and otherwise those that it found until then. Want of memory ends a search as
+/// its limit does: the texts are then those of a search with a limit of half the states met.
 ///
 /// # Errors
-/// Those of [`texts_within`]: `Memory` if even a search of one state lacks memory.
+/// `Astray` if the search found an order that the core does not follow to its text, or a run that returned to a state;
+/// `States` if the search has too many states to number; and `Memory` if even a search of one state lacks memory.
 pub fn texts_found<T: SearchWatch>(
     alloc: Global,
     script: &RunScript,
@@ -186,32 +164,10 @@ pub fn texts_found<T: SearchWatch>(
     let mut counting = CountingWatch { watch, states: 0 };
     let mut limit = limit;
     for _ in 0..usize::BITS {
-        match texts_counted(alloc, script, limit, &mut counting) {
+        match texts_within(alloc, script, limit, &mut counting) {
             Err(TextsFault::Memory) => limit = counting.states / 2,
             ending => return ending,
         }
     }
     Err(TextsFault::Memory)
-}
-
-/// Returns the texts that a script may give, if the search meets at most `limit` states. These are all of them if the
-/// script's flags are numbered, as those of each parsed script are.
-///
-/// # Errors
-/// `States` beyond the limit, `Astray` if the search found an order that the core does not follow to its text, or a run
-/// that returned to a state, and `Memory`.
-pub fn texts_of(alloc: Global, script: &RunScript, limit: usize) -> Result<FoundTexts, TextsFault>
-    requires { CanConfigure (contents_of script.now.head) }
-    ensures possible { IfOk result (λ all. All (MayGive (run_contents script.now)) (texts_of_orders all.texts.items)) }
-    ensures whole { (text : List ℕ) → AreNumbered script.now.flags script.now.tasks →
-        MayGive (run_contents script.now) text →
-        IfOk result (λ all. IsTextAmong text (texts_of_orders all.texts.items)) }
-    ensures apart { IfOk result (λ all. AreDifferentTexts (texts_of_orders all.texts.items)) }
-{
-    let all = texts_within(alloc, script, limit, &mut Unwatched)?;
-    if all.whole {
-        Ok(all)
-    } else {
-        Err(TextsFault::States)
-    }
 }

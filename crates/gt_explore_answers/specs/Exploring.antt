@@ -5,7 +5,7 @@ use Rattle.std.specs.List.{flat_map, position}
 use Rattle.std.specs.Str.{bytes_eq}
 use Rattle.gt_script.specs.Lists.{RunAction, RunTask}
 use Rattle.gt_script.specs.RunContents.{RunContents}
-use Rattle.gt_script.specs.declared.tasks.RunActionBy.TheVariants.{Do, Tell, Await}
+use Rattle.gt_script.specs.declared.tasks.RunAction.TheVariants.{Do, Tell, Await}
 use Rattle.gt_script_lines.specs.declared.calls.ScriptCall.{ScriptCall}
 use Rattle.gt_script_lines.specs.declared.calls.ScriptCall.TheVariants as script_calls
 use Rattle.gt_types.specs.declared.DomId.{DomId}

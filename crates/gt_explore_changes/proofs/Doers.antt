@@ -9,7 +9,7 @@ use Rattle.gt_types.specs.declared.DomId.{DomId}
 use Rattle.gt_script.specs.Contents.{type_names}
 use Rattle.gt_script.specs.Lists.{RunAction, RunTask}
 use Rattle.gt_script.specs.RunContents.{RunContents}
-use Rattle.gt_script.specs.declared.tasks.RunActionBy.TheVariants.{Await, Do, Tell}
+use Rattle.gt_script.specs.declared.tasks.RunAction.TheVariants.{Await, Do, Tell}
 use Rattle.gt_script_runs.specs.Runs.{answer_in}
 use Rattle.gt_explore_replay.specs.Courses.{ActionLeads, Course, IsTurnedBy, OpenLeads, Opened, RestLeads}
 use Rattle.gt_explore_replay.specs.Courses.{TurnsLead, calling, first_courses, giving, resting}

@@ -46,8 +46,6 @@ abbrev pub claims_memory : ClaimsFault
 claims_memory = claims_faults.Explore (Play play_faults.Memory)
 
 abbrev pub precedence_fault_text : PrecedenceFault → List ℕ
-precedence_fault_text precedence_faults.Always = codes "an order of calls is for find and never"
-precedence_fault_text precedence_faults.Joined = codes "an order of calls is joined by & alone"
 precedence_fault_text precedence_faults.Call = codes "no such call in an order of calls"
 
 abbrev pub claims_fault_text : ClaimsFault → List ℕ

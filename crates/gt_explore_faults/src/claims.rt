@@ -9,10 +9,6 @@ use std::fmt;
 /// Why a term such as `12<17`, which is an order of two calls, can't be a part of an expression.
 #[derive(Clone, Copy, Debug, PartialEq, Eq)]
 pub enum PrecedenceFault {
-    /// The claim is `always`. The runs in that order do not show what holds of all texts.
-    Always,
-    /// The terms of the expression are not all joined by `&`, or an order comes after `!`.
-    Joined,
     /// A side is neither the line of a call nor the name of one.
     Call,
 }
@@ -25,8 +21,6 @@ impl fmt::Display for PrecedenceFault {
 
     fn fmt<W: fmt::Write>(&self, f: &mut fmt::Formatter<W>) -> fmt::Result {
         match self {
-            PrecedenceFault::Always => f.write_str("an order of calls is for find and never"),
-            PrecedenceFault::Joined => f.write_str("an order of calls is joined by & alone"),
             PrecedenceFault::Call => f.write_str("no such call in an order of calls"),
         }
     }

@@ -25,7 +25,7 @@ use Rattle.gt_script_lines.specs.declared.calls.ScriptCall.{ScriptCall}
 use Rattle.gt_explore_replay.specs.Courses.{Course, Opened, calling, resting}
 use Rattle.gt_explore_replay.specs.Orders.{given_up}
 use Rattle.gt_script.specs.Lists.{RunTask}
-use Rattle.gt_script.specs.declared.tasks.RunActionBy.TheVariants.{Do}
+use Rattle.gt_script.specs.declared.tasks.RunAction.TheVariants.{Do}
 use Rattle.gt_explore_moves.specs.Beginnings.{OpensAsRun}
 use Rattle.gt_explore_moves.specs.Calls.{AsksByPlace, LabelsShow, SerialsRise, ShowsCalls, ShowsOpen, handles_at}
 use Rattle.gt_explore_moves.specs.Calls.{known_by_place, tasks_open}

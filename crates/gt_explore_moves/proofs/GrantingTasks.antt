@@ -18,7 +18,7 @@ use Rattle.gt_script_lines.specs.declared.calls.ScriptCall.TheVariants as script
 use Rattle.gt_script.specs.Lists.{RunTask}
 use Rattle.gt_script.specs.RunContents.{RunContents}
 use Rattle.gt_script.specs.RunScripts.{list_of}
-use Rattle.gt_script.specs.declared.tasks.RunActionBy.TheVariants.{Do}
+use Rattle.gt_script.specs.declared.tasks.RunAction.TheVariants.{Do}
 use Rattle.gt_explore_moves.specs.Ends.{tasks_at}
 use Rattle.gt_explore_moves.specs.Granting.{ActionMayGrant, AsksOnlyFitting, IsGranted, IsListed, IsOfScript}
 use Rattle.gt_explore_moves.specs.Granting.{ListsGrants}

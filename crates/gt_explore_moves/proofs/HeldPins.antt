@@ -282,6 +282,7 @@ any-end grants dir t r = ((tt, tt), λ e granted. any-beyond grants dir t e)
 
 any-touch : (grants : List GrantedEntry) (d : DomId) (r : OpenRequest) → IsNoProbe r
     → RequestTouches any grants any_use d r
+any-touch grants d (Grant gref entry) unprobed = (tt, tt)
 any-touch grants d (Map dom gref flags) unprobed = ((tt, tt), (λ e granted. ((λ is. tt), (λ is. tt))))
 any-touch grants d (Load handle off len) unprobed = refl
 any-touch grants d (Store handle off len) unprobed = refl

@@ -27,6 +27,7 @@ pub mod OthersStay
 pub mod Placing
 pub mod Reaching
 pub mod Renaming
+pub mod RunLengths
 pub mod SameStep
 pub mod SetsFound
 pub mod ShownBySame
@@ -37,4 +38,5 @@ pub mod Touching
 pub mod Undisturbed
 pub mod Unlabelled
 pub mod Ways
+pub mod EntriesKnown
 pub mod Within

@@ -40,7 +40,7 @@ use Rattle.gt_script.specs.Contents.{type_names}
 use Rattle.gt_script.specs.Lists.{RunAction, RunTask}
 use Rattle.gt_script.specs.RunContents.{RunContents}
 use Rattle.gt_script.specs.Stuck.{IsBelow}
-use Rattle.gt_script.specs.declared.tasks.RunActionBy.TheVariants.{Await, Do, Tell}
+use Rattle.gt_script.specs.declared.tasks.RunAction.TheVariants.{Await, Do, Tell}
 use Rattle.gt_explore_moves.specs.Calls.{KnowsTable, ShowsCalls, ShowsOpen}
 use Rattle.gt_explore_moves.specs.Ends.{tasks_at}
 use Rattle.gt_explore_moves.specs.Scenes.{IsSceneOf, MovesAlong, SceneShows, WasAnsweredAll}

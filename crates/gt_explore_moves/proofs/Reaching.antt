@@ -15,7 +15,7 @@ use Rattle.gt_explore_replay.specs.Orders.{Happening, given_up, raised, IsRaised
 use Rattle.gt_explore_replay.proofs.Whole.{raised_or}
 use Rattle.gt_script_runs.specs.Runs.{answer_in}
 use Rattle.gt_script.specs.Lists.{RunAction, RunTask}
-use Rattle.gt_script.specs.declared.tasks.RunActionBy.TheVariants.{Await, Do, Tell}
+use Rattle.gt_script.specs.declared.tasks.RunAction.TheVariants.{Await, Do, Tell}
 use Rattle.gt_script_lines.specs.declared.calls.ScriptCall.{ScriptCall}
 use Rattle.gt_explore_moves.specs.Touches.{awaits_shut, reachable, tells_shut}
 use Rattle.gt_explore_moves.proofs.Touching.{or-false}

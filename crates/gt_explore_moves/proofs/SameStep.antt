@@ -18,7 +18,7 @@ use Rattle.gt_model.specs.declared.request.Request.{Request}
 use Rattle.gt_model.specs.Asking.{asked, bytes_given_by}
 use Rattle.gt_model.specs.Path.{path}
 use Rattle.gt_model.specs.Rules.{CallerKnowledge}
-use Rattle.gt_calls.specs.Known.{own_generation}
+use Rattle.gt_explore_state.specs.Rows.{kept_generation}
 use Rattle.gt_calls.specs.Standing.{IsAt}
 use Rattle.gt_model.specs.History.{History, Setting, Underway, change_at, given_in, maps_answered_at, open_call}
 use Rattle.gt_model.specs.History.{seen_by, values}
@@ -211,7 +211,7 @@ module _ (s : Setting) (h : History) (scene : SearchContext) (before : SearchSta
     domains = tick.shows.setting.domains;
     may = tick.shows.may;
     entries = λ p phase storing. fun_ext (λ r. table-shows.entries r ∙ kept-entry i h k.dom.0 r (keeps p phase storing));
-    generations = λ p phase storing. fun_ext (λ r. ap (λ (n : ℕ). own_generation n table.own.items r) tick.shows.setting.first ∙ table-shows.generations r
+    generations = λ p phase storing. fun_ext (λ r. ap (λ (n : ℕ). kept_generation n table.own.items r) tick.shows.setting.first ∙ table-shows.generations r
         ∙ ap (λ (n : ℕ). s.first_generation + n) (kept-raises i h k.dom.0 r (keeps p phase storing)));
   } where
     table-shows : TableShows s (i ∷ h) k.dom table

@@ -17,7 +17,7 @@ use Rattle.gt_model.specs.Legal.{IsRight}
 use Rattle.gt_model.specs.declared.trace.Element.TheVariants as elements
 use Rattle.gt_model.specs.declared.trace.Event.{Event}
 use Rattle.gt_model.specs.declared.trace.Item.{Item}
-use Rattle.gt_calls.specs.Known.{own_generation}
+use Rattle.gt_explore_state.specs.Rows.{kept_generation}
 use Rattle.gt_script_runs.specs.Playing.{setting_of_script}
 use Rattle.gt_explore_replay.specs.Abreast.{history_in}
 use Rattle.gt_explore_replay.specs.Courses.{Course}
@@ -119,7 +119,7 @@ module _ (c : RunContents) (scene : SearchContext) (hs : List Happening) (ks : L
           domains = is.setting.domains;
           may = is.may;
           entries = fun_ext (λ r. knows.entries r);
-          generations = fun_ext (λ r. ap (λ (n : ℕ). own_generation n t.0.own.items r) is.setting.first ∙ knows.generations r);
+          generations = fun_ext (λ r. ap (λ (n : ℕ). kept_generation n t.0.own.items r) is.setting.first ∙ knows.generations r);
           header = knows.header;
         },
       )

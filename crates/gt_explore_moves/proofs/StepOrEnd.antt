@@ -49,7 +49,7 @@ use Rattle.gt_explore_replay.specs.Courses.{Course, Opened, back_after, calling,
 use Rattle.gt_explore_replay.specs.Courses.{giving, resting}
 use Rattle.gt_explore_replay.specs.Orders.{given_up, handles_without, held_after}
 use Rattle.gt_script.specs.Lists.{RunTask}
-use Rattle.gt_script.specs.declared.tasks.RunActionBy.TheVariants.{Do}
+use Rattle.gt_script.specs.declared.tasks.RunAction.TheVariants.{Do}
 use Rattle.gt_explore_state.specs.Shows.{PagesShow, TablesShow}
 use Rattle.gt_explore_state.specs.declared.ground.SparseState.{SparseState}
 use Rattle.gt_explore_moves.specs.Calls.{AsksByPlace, GoesAlong, IsOfLine, IsOfTask, LabelsShow, ShowsCalls}

@@ -2,7 +2,7 @@
 use Rattle.std.proofs.Common.{◌≡◌, ◌⊎◌, inl, inr, ℕ, zero, suc, refl, Bool, true, false, cond, List, [], ◌∷◌, ◌++◌, length}
 use Rattle.std.proofs.Common.{Option, Some, None, sym, ap, ◌∙◌, subst, append-nil, arith}
 use Rattle.std.specs.List.{list_any}
-use Rattle.std.specs.Prelude.{◌==◌, ◌&&◌, ◌||◌, slice_get}
+use Rattle.std.specs.Prelude.{◌==◌, ◌&&◌, ◌||◌, not, slice_get}
 use Rattle.std.proofs.lemmas.Bool.{and_parts, eq-eqb, eqb-true, false≢true}
 use Rattle.std.proofs.lemmas.Option.{none-some, same_Some}
 use Rattle.gt_types.specs.Copies.{is_dest_granted, is_source_granted}
@@ -51,7 +51,7 @@ use Rattle.gt_model.specs.declared.request.Request.{Request}
 use Rattle.gt_model.specs.Entries.{frame_of, with_ro}
 use Rattle.gt_model.specs.History.{History, Setting, mapping_of, mappings_at, patches_at}
 use Rattle.gt_commuting.specs.Swapping.{AreApart, ReleasesNoPinOn, SameLook, TouchApart, looks_header}
-use Rattle.gt_commuting.specs.Swapping.{touches_entry}
+use Rattle.gt_commuting.specs.Swapping.{leaves_body, looks_body, stores_body, touches_entry}
 use Rattle.gt_commuting.specs.Swapping.{patches_of, reads_frames, stores_header, writes_frames}
 use Rattle.gt_model.specs.declared.trace.Answer.{Answer}
 use Rattle.gt_model.specs.declared.trace.Item.{Item}
@@ -62,7 +62,7 @@ use Rattle.gt_script_runs.specs.Runs.{Named, MakesRequest, call_bytes, request_o
 use Rattle.gt_script_lines.specs.declared.calls.ScriptCall.{ScriptCall}
 use Rattle.gt_script_lines.specs.declared.calls.ScriptCall.TheVariants as script_calls
 use Rattle.gt_script.specs.Lists.{RunAction, RunTask}
-use Rattle.gt_script.specs.declared.tasks.RunActionBy.TheVariants.{Await, Do, Tell}
+use Rattle.gt_script.specs.declared.tasks.RunAction.TheVariants.{Await, Do, Tell}
 use Rattle.gt_explore_moves.specs.Touches.{is_access_step, is_load, is_on, is_store, is_write, meets, meets_bytes}
 use Rattle.gt_explore_moves.specs.Touches.{frame_touch, is_grant_of, meets_beyond, meets_call, meets_dest, meets_end, meets_last, meets_leg}
 use Rattle.gt_explore_moves.specs.Touches.{meets_mapped, meets_source, meets_uses}
@@ -75,7 +75,7 @@ use Rattle.gt_explore_moves.specs.Renaming.{step_under}
 use Rattle.gt_explore_moves.specs.declared.touches.NextMove.{NextMove}
 use Rattle.gt_explore_moves.specs.declared.touches.NextMove.TheVariants as next_moves
 use Rattle.gt_explore_moves.specs.declared.touches.Touch.{Touch}
-use Rattle.gt_explore_moves.specs.declared.touches.Touch.TheVariants.{LooksHeader, Raises, Reads, StoresHeader, Writes}
+use Rattle.gt_explore_moves.specs.declared.touches.Touch.TheVariants.{LooksHeader, Raises, Reads, StoresHeader, WholeEntry, Writes}
 use Rattle.gt_explore_moves.specs.declared.touches.Touch.TheVariants as touches
 use Rattle.gt_commuting.proofs.PathSteps.{Each, GivesWell, IsNoVia, IsPinOf, LegIs, each-ended, each-given, each-grant}
 use Rattle.gt_commuting.proofs.PathSteps.{each-leg, each-looks, each-makes, each-mapped, each-once, each-reached}
@@ -125,7 +125,7 @@ DestTouches A grants d c =
 
 -- what a request of this domain may touch is such
 abbrev pub RequestTouches : (Touch → Type 0) → List GrantedEntry → MappingUse → DomId → OpenRequest → Type 0
-RequestTouches A grants uses d (Grant gref entry) = A (touches.Entry d gref)
+RequestTouches A grants uses d (Grant gref entry) = A (touches.Entry d gref) × A (WholeEntry d gref)
 RequestTouches A grants uses d (Revoke gref) = A (touches.Entry d gref)
 RequestTouches A grants uses d (Withdraw gref) = A (touches.Entry d gref)
 RequestTouches A grants uses d (Demote gref) = A (touches.Entry d gref)
@@ -152,7 +152,7 @@ StepTouches A d (LookControl dom gref) = A (touches.Entry dom gref)
 StepTouches A d (LookBody dom gref body_word) = A (touches.Entry dom gref)
 StepTouches A d (call_steps.Pin p) = A (touches.Entry p.dom p.gref)
 StepTouches A d (Unpin p holder) = A (touches.Entry p.dom p.gref)
-StepTouches A d (StoreBody gref body_word word) = A (touches.Entry d gref)
+StepTouches A d (StoreBody gref body_word word) = A (WholeEntry d gref)
 StepTouches A d (StoreHeader version frames) = A (StoresHeader d)
 StepTouches A d (Exchange gref looked change) = A (touches.Entry d gref)
 StepTouches A d (call_steps.Read dom frame off len) = A (Reads dom frame)
@@ -335,7 +335,7 @@ module _ (A : Touch → Type 0) (grants : List GrantedEntry) (uses : MappingUse)
   pub each-step : (r : OpenRequest) → RequestTouches A grants uses d r → (IsCopy r → Applies)
       → Each L (One r) [] (steps_of k d r)
   each-step (Grant gref entry) t applies = each-grant L (One (Grant gref entry)) [] (λ verdict. refl) k d gref entry
-      (λ body_word w. (t, tt, tt)) (λ looked. (t, tt, refl))
+      (λ body_word w. (t.1, tt, tt)) (λ looked. (t.0, tt, refl))
   each-step (Revoke gref) t applies = each-once L (One (Revoke gref)) [] (λ verdict. refl) d gref changes.Revoke
       (λ looked. (t, tt, tt)) _
   each-step (Withdraw gref) t applies = each-turns L (One (Withdraw gref)) [] (λ verdict. refl) d gref changes.Withdraw
@@ -394,8 +394,8 @@ path-opened k d r vs step e = by (begun k d r) refl e where
 
 -- what a call may touch is such
 abbrev pub CallTouches : (Touch → Type 0) → List GrantedEntry → MappingUse → DomId → ScriptCall → Type 0
-CallTouches A grants uses d (script_calls.Grant gref entry) = A (touches.Entry d gref)
-CallTouches A grants uses d (script_calls.GrantBytes gref hex) = A (touches.Entry d gref)
+CallTouches A grants uses d (script_calls.Grant gref entry) = A (touches.Entry d gref) × A (WholeEntry d gref)
+CallTouches A grants uses d (script_calls.GrantBytes gref hex) = A (touches.Entry d gref) × A (WholeEntry d gref)
 CallTouches A grants uses d (script_calls.Revoke gref) = A (touches.Entry d gref)
 CallTouches A grants uses d (script_calls.Withdraw gref) = A (touches.Entry d gref)
 CallTouches A grants uses d (script_calls.Demote gref) = A (touches.Entry d gref)
@@ -628,6 +628,14 @@ unmet-dest grants move d c e = by (is_dest_granted c) e where
   )
   by false f = ((λ is. absurd (false≢true is)), (λ is. f))
 
+-- what meets no word of an entry does not meet its control word
+unmet-entry : (move : NextMove) (t : DomId) (r : GrantRef) → Unmet move (WholeEntry t r) → Unmet move (touches.Entry t r)
+unmet-entry (next_moves.Makes d z) t r e = off-and (is_on d z t.0 r.0) (not (looks_body z)) e where
+  off-and : (a b : Bool) → a ≡ false → (a && b) ≡ false
+  off-and a b off = grind arith
+unmet-entry (next_moves.Awaits flag) t r e = refl
+unmet-entry next_moves.Free t r e = refl
+
 -- the uses that a call makes of mappings are among these
 abbrev pub CallUses : MappingUse → ScriptCall → Type 0
 CallUses uses (script_calls.Load label off len) = uses.loads ≡ true
@@ -636,8 +644,8 @@ CallUses uses call = Unit {0}
 
 unmet-call : (grants : List GrantedEntry) (uses : MappingUse) (move : NextMove) (d : DomId) (call : ScriptCall)
     → CallUses uses call → meets_call grants uses move d call ≡ false → CallTouches (Unmet move) grants uses d call
-unmet-call grants uses move d (script_calls.Grant gref entry) used e = e
-unmet-call grants uses move d (script_calls.GrantBytes gref hex) used e = e
+unmet-call grants uses move d (script_calls.Grant gref entry) used e = (unmet-entry move d gref e, e)
+unmet-call grants uses move d (script_calls.GrantBytes gref hex) used e = (unmet-entry move d gref e, e)
 unmet-call grants uses move d (script_calls.Revoke gref) used e = e
 unmet-call grants uses move d (script_calls.Withdraw gref) used e = e
 unmet-call grants uses move d (script_calls.Demote gref) used e = e
@@ -689,6 +697,7 @@ or-false a b e = or-parts a b e
 pub meets-under : (d : DomId) (b : Handle) (z : Step) (touch : Touch)
     → step_meets d (step_under b z) touch ≡ step_meets d z touch
 meets-under d b (Unpin p (holders.Mapping a)) (touches.Entry dom gref) = refl
+meets-under d b (Unpin p (holders.Mapping a)) (WholeEntry dom gref) = refl
 meets-under d b (Unpin p (holders.Mapping a)) (LooksHeader dom) = refl
 meets-under d b (Unpin p (holders.Mapping a)) (StoresHeader dom) = refl
 meets-under d b (Unpin p (holders.Mapping a)) (Reads dom f) = refl
@@ -706,6 +715,17 @@ off-entry : (e : DomId) (z : Step) (dom : DomId) (gref : GrantRef) (t r : ℕ) �
     → ((dom.0 == t) && (gref.0 == r)) ≡ true → is_on e z t r ≡ false
 off-entry e z dom gref t r off at = let same = at-place dom.0 gref.0 t r at in
     subst (λ x. is_on e z x r ≡ false) same.0 (subst (λ x. is_on e z dom.0 x ≡ false) same.1 off)
+
+-- what looks at no body word is off an entry whose control word it does not meet
+plain-off : (a b : Bool) → (a && not b) ≡ false → b ≡ false → a ≡ false
+plain-off a b off plain = grind arith
+
+off-word : (e : DomId) (z : Step) (dom : DomId) (gref : GrantRef) (t r : ℕ)
+    → (is_on e z dom.0 gref.0 && not (looks_body z)) ≡ false → ((dom.0 == t) && (gref.0 == r)) ≡ true
+    → (is_on e z t r && not (looks_body z)) ≡ false
+off-word e z dom gref t r off at = let same = at-place dom.0 gref.0 t r at in
+    subst (λ x. (is_on e z x r && not (looks_body z)) ≡ false) same.0
+    (subst (λ x. (is_on e z dom.0 x && not (looks_body z)) ≡ false) same.1 off)
 
 on-is : (e : DomId) (z : Step) (t r : ℕ) → touches_entry e z t r ≡ true → is_on e z t r ≡ true
 on-is e (Unpin p holder) t r on = absurd (false≢true on)
@@ -739,36 +759,58 @@ unfolding patches_at
 patches-kept h i t f none = ap (λ l. patches_at h t f ++ l) none ∙ append-nil (patches_at h t f)
 
 module _ (d e : DomId) (y z : Step) (unmet : StepTouches (λ touch. step_meets e z touch ≡ false) d y) where
-  -- an entry that the one step is on
-  words-off : (t r : ℕ) → touches_entry d y t r ≡ true → is_on e z t r ≡ false
+  -- an entry that the one step is on: the other one is off it, or looks at a body word, which the one does not store
+  words-off : (t r : ℕ) → touches_entry d y t r ≡ true → (is_on e z t r && not (looks_body z)) ≡ false
   words-off t r on = by y unmet on where
+    none-and : (a b : Bool) → a ≡ false → (a && b) ≡ false
+    none-and a b off = grind arith
+
     by : (x : Step) → StepTouches (λ touch. step_meets e z touch ≡ false) d x → touches_entry d x t r ≡ true
-        → is_on e z t r ≡ false
-    by (LookControl dom gref) u on = off-entry e z dom gref t r u on
-    by (LookBody dom gref body_word) u on = off-entry e z dom gref t r u on
-    by (call_steps.Pin p) u on = off-entry e z p.dom p.gref t r u on
-    by (StoreBody gref body_word w) u on = off-entry e z d gref t r u on
-    by (Exchange gref looked change) u on = off-entry e z d gref t r u on
+        → (is_on e z t r && not (looks_body z)) ≡ false
+    by (LookControl dom gref) u on = off-word e z dom gref t r u on
+    by (LookBody dom gref body_word) u on = off-word e z dom gref t r u on
+    by (call_steps.Pin p) u on = off-word e z p.dom p.gref t r u on
+    by (StoreBody gref body_word w) u on = none-and (is_on e z t r) (not (looks_body z)) (off-entry e z d gref t r u on)
+    by (Exchange gref looked change) u on = off-word e z d gref t r u on
     by x u on = absurd (false≢true on)
 
-  apart-words : (t r : ℕ) → touches_entry d y t r ≡ true → touches_entry e z t r ≡ true → ⊥
-  apart-words t r one other = false≢true (sym (words-off t r one) ∙ on-is e z t r other)
+  looks-body : (t r : ℕ) → touches_entry d y t r ≡ true → touches_entry e z t r ≡ true → looks_body z ≡ true
+  looks-body t r one other = must (is_on e z t r) (looks_body z) (words-off t r one) (on-is e z t r other) where
+    must : (a b : Bool) → (a && not b) ≡ false → a ≡ true → b ≡ true
+    must a b off on = grind arith
+
+  -- each leaves what the other one looks at
+  leaves-first : (t r : ℕ) → touches_entry d y t r ≡ true → touches_entry e z t r ≡ true → leaves_body y z ≡ true
+  leaves-first t r one other = by y unmet one where
+    leaves : (a b c : Bool) → b ≡ true → c ≡ false → (a || (b && not c)) ≡ true
+    leaves a b c is none = grind arith
+
+    by : (x : Step) → StepTouches (λ touch. step_meets e z touch ≡ false) d x → touches_entry d x t r ≡ true
+        → leaves_body x z ≡ true
+    by (StoreBody gref body_word w) u on = absurd (false≢true (sym (off-entry e z d gref t r u on) ∙ on-is e z t r other))
+    by x u on = leaves (looks_body x) (looks_body z) (stores_body x) (looks-body t r one other) refl
+
+  leaves-second : (t r : ℕ) → touches_entry e z t r ≡ true → touches_entry d y t r ≡ true → leaves_body z y ≡ true
+  leaves-second t r other one = either (looks_body z) (looks_body y && not (stores_body z)) (looks-body t r one other) where
+    either : (a b : Bool) → a ≡ true → (a || b) ≡ true
+    either a b is = grind arith
 
   module _ (h : History) (mine : Releases h d y)
       (theirs : Releases h e z)
       (quiet : (is_access_step y && is_access_step z) ≡ false) where
-    pins-first : (t r : ℕ) → touches_entry e z t r ≡ true → ReleasesNoPinOn h d y t r
-    pins-first t r on = by y unmet mine where
+    pins-first : (t r : ℕ) → touches_entry e z t r ≡ true → looks_body z ≡ false → ReleasesNoPinOn h d y t r
+    pins-first t r on plain = by y unmet mine where
       by : (x : Step) → StepTouches (λ touch. step_meets e z touch ≡ false) d x → Releases h d x → ReleasesNoPinOn h d x t r
       by (Unpin p holder) u releases = keeps-elsewhere h d p holder t r releases
           (not-true ((p.dom.0 == t) && (p.gref.0 == r)) (λ at. false≢true
-          (sym (off-entry e z p.dom p.gref t r u at) ∙ on-is e z t r on)))
+          (sym (plain-off (is_on e z t r) (looks_body z) (off-word e z p.dom p.gref t r u at) plain) ∙ on-is e z t r on)))
       by x u releases = tt
 
-    pins-second : (t r : ℕ) → touches_entry d y t r ≡ true → ReleasesNoPinOn h e z t r
-    pins-second t r on = by z theirs (words-off t r on) where
-      by : (x : Step) → Releases h e x → is_on e x t r ≡ false → ReleasesNoPinOn h e x t r
-      by (Unpin p holder) releases off = keeps-elsewhere h e p holder t r releases off
+    pins-second : (t r : ℕ) → touches_entry d y t r ≡ true → looks_body y ≡ false → ReleasesNoPinOn h e z t r
+    pins-second t r on plain = by z theirs (words-off t r on) where
+      by : (x : Step) → Releases h e x → (is_on e x t r && not (looks_body x)) ≡ false → ReleasesNoPinOn h e x t r
+      by (Unpin p holder) releases off = keeps-elsewhere h e p holder t r releases
+          (plain-off ((p.dom.0 == t) && (p.gref.0 == r)) false off refl)
       by x releases off = tt
 
     header-first : (t : ℕ) → stores_header d y t ≡ true → looks_header z t ≡ true → ⊥
@@ -795,13 +837,13 @@ module _ (d e : DomId) (y z : Step) (unmet : StepTouches (λ touch. step_meets e
     touch-apart-of actors = record {
       actors = actors;
       first = record {
-        words = apart-words;
+        words = leaves-first;
         pins = pins-first;
         header = header-first;
         bytes = λ t one other. not-both (writes-access y t one) (reads-access z t other);
       };
       second = record {
-        words = λ t r other one. apart-words t r one other;
+        words = leaves-second;
         pins = pins-second;
         header = header-second;
         bytes = λ t other one. not-both (reads-access y t one) (writes-access z t other);

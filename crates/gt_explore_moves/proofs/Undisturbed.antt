@@ -48,7 +48,7 @@ use Rattle.gt_explore_replay.proofs.Turning.{AllDiffer, IsNoneOf, all-differ, id
 use Rattle.gt_explore_replay.proofs.Whole.{history_did, history_quiet, raised_or}
 use Rattle.gt_script.specs.Contents.{type_names}
 use Rattle.gt_script.specs.Lists.{RunTask, RunAction}
-use Rattle.gt_script.specs.declared.tasks.RunActionBy.TheVariants.{Await, Do, Tell}
+use Rattle.gt_script.specs.declared.tasks.RunAction.TheVariants.{Await, Do, Tell}
 use Rattle.gt_script.specs.RunContents.{RunContents}
 use Rattle.gt_explore_moves.specs.Calls.{GoesAlong, ShowsCalls, ShowsOpen}
 use Rattle.gt_explore_moves.specs.Ends.{choices_at, choices_in, is_done, tasks_at, turns_by}

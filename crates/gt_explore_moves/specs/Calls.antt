@@ -3,8 +3,8 @@
 use Rattle.std.specs.Prelude.{◌≡◌, ◌≤◌, ◌+◌, ◌↔◌, ℕ, suc, List, [], ◌∷◌, length, map, drop, Option, Some, None}
 use Rattle.std.specs.Prelude.{slice_get}
 use Rattle.gt_explore_moves.specs.Prelude.{DomId, HandleMap, Handle, HeldPin, OpenRequest, Load, Store, Request, asked}
-use Rattle.gt_explore_moves.specs.Prelude.{bytes_given_by, path, CallerKnowledge, entry_in, knowledge_of}
-use Rattle.gt_explore_moves.specs.Prelude.{own_generation, IsAt, History, Setting, Underway, entry_at, generation_at}
+use Rattle.gt_explore_moves.specs.Prelude.{bytes_given_by, path, CallerKnowledge, knowledge_of}
+use Rattle.gt_explore_moves.specs.Prelude.{IsAt, History, Setting, Underway, entry_at, generation_at}
 use Rattle.gt_explore_moves.specs.Prelude.{known_at, mappings_at, maps_answered_at, open_call, table_at, values, may_by}
 use Rattle.gt_explore_moves.specs.Prelude.{Named, MakesRequest, handle_labelled, ScriptCall, Course, resting, calling}
 use Rattle.gt_explore_moves.specs.Prelude.{giving, given_up, handles_without, RunTask, Do, SparseTable}
@@ -12,6 +12,7 @@ use Rattle.gt_model.specs.declared.action.Action.TheVariants as actions
 use Rattle.gt_model.specs.declared.request.OpenRequest.TheVariants.{Unmap, Release}
 use Rattle.gt_explore_replay.specs.Courses.{Opened}
 use Rattle.gt_explore_moves.specs.Mappings.{labels_of, mapping_pins}
+use Rattle.gt_explore_state.specs.Rows.{kept_entry, kept_generation}
 use Rattle.gt_explore_moves.specs.Placing.{pin_by_place}
 use Rattle.gt_explore_moves.specs.Renaming.{asked_under}
 use Rattle.gt_explore_moves.specs.declared.actor.Actor.{Actor}
@@ -21,14 +22,17 @@ use Rattle.gt_explore_moves.specs.declared.scene.SearchContext.{SearchContext}
 -- what a domain of a state knows, if these are its mappings by their handles
 abbrev pub known_in : SearchContext → SparseTable → HandleMap HeldPin → CallerKnowledge
 known_in s t mappings =
-    knowledge_of s.roster.domains.items s.roster.first_gen (may_by s.rights) t.own.items t.header mappings
+    record (knowledge_of s.roster.domains.items s.roster.first_gen (may_by s.rights) [] t.header mappings) {
+      entry = kept_entry t.own.items;
+      generation = kept_generation s.roster.first_gen t.own.items;
+    }
 
 -- what a domain of a state knows of its own table, and what the policy allows, are as the history has them
 pub record KnowsTable (s : Setting) (h : History) (d : DomId) (scene : SearchContext) (t : SparseTable) : Type 0 where
   pub domains : scene.roster.domains.items ≡ s.domains
   pub may : may_by scene.rights ≡ s.may
-  pub entries : entry_in t.own.items ≡ (λ r. entry_at h d.0 r)
-  pub generations : own_generation scene.roster.first_gen t.own.items ≡ (λ r. generation_at s h d.0 r)
+  pub entries : kept_entry t.own.items ≡ (λ r. entry_at h d.0 r)
+  pub generations : kept_generation scene.roster.first_gen t.own.items ≡ (λ r. generation_at s h d.0 r)
   pub header : t.header ≡ table_at s h d
 
 -- no mappings

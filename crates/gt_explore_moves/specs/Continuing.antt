@@ -9,12 +9,12 @@ use Rattle.gt_calls.specs.declared.call.Call.{Call}
 use Rattle.gt_calls.specs.declared.call.Phase.{Phase}
 use Rattle.gt_calls.specs.declared.call.Phase.TheVariants.{Storing, StoringSecond}
 use Rattle.gt_model.specs.Path.{path}
-use Rattle.gt_calls.specs.Known.{entry_in, own_generation}
 use Rattle.gt_model.specs.History.{History, Setting, Underway, entry_at, generation_at, known_at, mappings_at}
 use Rattle.gt_model.specs.History.{maps_answered_at, seen_by, values}
 use Rattle.gt_script_runs.specs.Rights.{may_by}
 use Rattle.gt_explore_moves.specs.Calls.{GoesAlong}
 use Rattle.gt_explore_moves.specs.declared.scene.SearchContext.{SearchContext}
+use Rattle.gt_explore_state.specs.Rows.{kept_entry, kept_generation}
 use Rattle.gt_explore_state.specs.declared.table.SparseTable.{SparseTable}
 
 -- a domain knows the same by both histories
@@ -34,9 +34,9 @@ IsGranting phase = ⊥
 pub record StillKnows (s : Setting) (h : History) (d : DomId) (scene : SearchContext) (t : SparseTable) (call : Call) : Type 0 where
   pub domains : scene.roster.domains.items ≡ s.domains
   pub may : may_by scene.rights ≡ s.may
-  pub entries : (p : Phase) → call.phase ≡ Some p → IsGranting p → entry_in t.own.items ≡ (λ r. entry_at h d.0 r)
+  pub entries : (p : Phase) → call.phase ≡ Some p → IsGranting p → kept_entry t.own.items ≡ (λ r. entry_at h d.0 r)
   pub generations : (p : Phase) → call.phase ≡ Some p → IsGranting p
-      → own_generation scene.roster.first_gen t.own.items ≡ (λ r. generation_at s h d.0 r)
+      → kept_generation scene.roster.first_gen t.own.items ≡ (λ r. generation_at s h d.0 r)
 
 -- the call of the run, with this step appended
 abbrev pub stepped_call : Setting → History → DomId → Underway → Step → Underway

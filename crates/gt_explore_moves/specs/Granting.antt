@@ -20,7 +20,7 @@ use Rattle.gt_script_lines.specs.declared.calls.ScriptCall.{ScriptCall}
 use Rattle.gt_script_lines.specs.declared.calls.ScriptCall.TheVariants as script_calls
 use Rattle.gt_script_runs.specs.Runs.{Named, MakesRequest}
 use Rattle.gt_script.specs.Lists.{RunTask, RunAction}
-use Rattle.gt_script.specs.declared.tasks.RunActionBy.TheVariants.{Do}
+use Rattle.gt_script.specs.declared.tasks.RunAction.TheVariants.{Do}
 use Rattle.gt_explore_moves.specs.declared.granted.GrantedEntry.{GrantedEntry}
 
 -- lines

@@ -9,6 +9,7 @@ pub mod Parts
 pub mod Placing
 pub mod Prelude
 pub mod Renaming
+pub mod RunLengths
 pub mod Scenes
 pub mod Spaces
 pub mod Starting

@@ -35,7 +35,7 @@ no_parts = record { flags = []; actors = []; tables = []; pages = [] }
 
 -- with one part more: the flags, or a part at the end of those of its kind
 abbrev pub with_part : PartLists → StatePart → PartLists
-with_part l (Flags told) = record l { flags = told.items }
+with_part l (Flags told) = record l { flags = told }
 with_part l (Domain a) = record l { actors = l.actors ++ a ∷ [] }
 with_part l (Table t) = record l { tables = l.tables ++ t ∷ [] }
 with_part l (Page p) = record l { pages = l.pages ++ p ∷ [] }
@@ -47,7 +47,7 @@ with_parts l (p ∷ ps) = with_parts (with_part l p) ps
 
 -- the other part is of the same kind, and has the same content
 abbrev pub SamePart : StatePart → StatePart → Type 0
-SamePart (Flags told) (Flags t) = t.items ≡ told.items
+SamePart (Flags told) (Flags t) = t ≡ told
 SamePart (Domain a) (Domain b) = SameActor a b
 SamePart (Table t) (Table u) = SameTable t u
 SamePart (Page p) (Page q) = SamePage p q
@@ -77,11 +77,11 @@ all_but_flags w = map Domain w.actors.items ++ tables_and_pages w
 
 -- the parts of a state: its flags, its domains, their tables and the pages
 abbrev pub parts_of : SearchState → List StatePart
-parts_of w = Flags w.told ∷ all_but_flags w
+parts_of w = Flags w.told.items ∷ all_but_flags w
 
 -- the part that is borrowed from a state
 abbrev pub part_shown : PartInState → StatePart
-part_shown (parts_in_state.Flags told) = Flags told.now
+part_shown (parts_in_state.Flags told) = Flags told.now.items
 part_shown (parts_in_state.Domain a) = Domain a.now
 part_shown (parts_in_state.Table t) = Table t.now
 part_shown (parts_in_state.Page p) = Page p.now

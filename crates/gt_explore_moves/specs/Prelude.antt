@@ -2,7 +2,7 @@
 pub use Rattle.gt_model.specs.Asking.{asked, begun_of, bytes_given_by}
 pub use Rattle.gt_model.specs.Path.{path}
 pub use Rattle.gt_model.specs.Rules.{CallerKnowledge}
-pub use Rattle.gt_calls.specs.Known.{entry_in, knowledge_of, own_generation}
+pub use Rattle.gt_calls.specs.Known.{knowledge_of}
 pub use Rattle.gt_calls.specs.Standing.{IsAt}
 pub use Rattle.gt_model.specs.declared.action.Observation.{Observation}
 pub use Rattle.gt_model.specs.declared.action.Step.{Step}
@@ -38,7 +38,7 @@ pub use Rattle.gt_script.specs.Lists.{RunAction, RunTask}
 pub use Rattle.gt_script.specs.RunContents.{RunContents}
 pub use Rattle.gt_script.specs.RunScripts.{list_of}
 pub use Rattle.gt_script.specs.Stuck.{AreNumbered}
-pub use Rattle.gt_script.specs.declared.tasks.RunActionBy.TheVariants.{Do}
+pub use Rattle.gt_script.specs.declared.tasks.RunAction.TheVariants.{Do}
 pub use Rattle.gt_types.specs.Config.{IsWithinLimits}
 pub use Rattle.gt_types.specs.declared.DomId.{DomId}
 pub use Rattle.gt_types.specs.declared.config.DomainConfig.{DomainConfig}

@@ -1,6 +1,6 @@
 -- What the next step of a domain touches, and what another domain may still touch.
 use Rattle.std.specs.Prelude.{◌≡◌, ◌==◌, ◌&&◌, ◌||◌, ◌<◌, ℕ, Bool, true, false, if◌then◌else◌, List, [], ◌∷◌, drop, ◌⊎◌}
-use Rattle.std.specs.Prelude.{length}
+use Rattle.std.specs.Prelude.{length, not}
 use Rattle.std.specs.Prelude.{Option, Some, None, slice_get, get_or}
 use Rattle.std.specs.List.{list_any}
 use Rattle.gt_types.specs.Copies.{is_dest_granted, is_source_granted}
@@ -15,14 +15,14 @@ use Rattle.gt_model.specs.declared.action.Step.TheVariants.{Unpin}
 use Rattle.gt_model.specs.declared.action.Step.TheVariants as call_steps
 use Rattle.gt_model.specs.declared.held.HeldPin.{HeldPin}
 use Rattle.gt_model.specs.Path.{gref_of}
-use Rattle.gt_commuting.specs.Swapping.{touches_entry, looks_header, stores_header}
+use Rattle.gt_commuting.specs.Swapping.{touches_entry, looks_body, looks_header, stores_header}
 use Rattle.gt_model.specs.Entries.{frame_of}
 use Rattle.gt_model.specs.declared.entry.Entry.{Entry}
 use Rattle.gt_model.specs.declared.entry.Entry.TheVariants.{Via}
 use Rattle.gt_script_lines.specs.declared.calls.ScriptCall.{ScriptCall}
 use Rattle.gt_script_lines.specs.declared.calls.ScriptCall.TheVariants as script_calls
 use Rattle.gt_script.specs.Lists.{RunTask, RunAction}
-use Rattle.gt_script.specs.declared.tasks.RunActionBy.TheVariants.{Await, Do, Tell}
+use Rattle.gt_script.specs.declared.tasks.RunAction.TheVariants.{Await, Do, Tell}
 use Rattle.gt_explore_search.specs.declared.spaces.Turn.{Turn}
 use Rattle.gt_explore_moves.specs.Ends.{choices_in, is_done, tasks_at, turns_by, turns_from}
 use Rattle.gt_explore_moves.specs.declared.actor.Actor.{Actor}
@@ -33,7 +33,7 @@ use Rattle.gt_explore_moves.specs.declared.scene.SearchContext.{SearchContext}
 use Rattle.gt_explore_moves.specs.declared.scene.SearchState.{SearchState}
 use Rattle.gt_explore_moves.specs.declared.touches.Touch.{Touch}
 use Rattle.gt_explore_moves.specs.declared.touches.Touch.TheVariants.{LooksHeader, StoresHeader, Reads, Writes}
-use Rattle.gt_explore_moves.specs.declared.touches.Touch.TheVariants.{Raises}
+use Rattle.gt_explore_moves.specs.declared.touches.Touch.TheVariants.{Raises, WholeEntry}
 use Rattle.gt_explore_moves.specs.declared.touches.Touch.TheVariants as touches
 use Rattle.gt_explore_moves.specs.declared.touches.MappingUse.{MappingUse}
 use Rattle.gt_explore_moves.specs.declared.touches.NextMove.{NextMove}
@@ -70,9 +70,11 @@ writes_frame_at (call_steps.Write dom frame off len) t f = (dom.0 == t) && (fram
 writes_frame_at (call_steps.Copy from to len) t f = (to.frame.owner.0 == t) && (to.frame.number == f)
 writes_frame_at step t f = false
 
--- the step of domain d conflicts with this touch of another domain: both are of the same part, and one changes it
+-- the step of domain d conflicts with this touch of another domain: both are of the same part, and one changes it. A
+-- change of a control word leaves the body words
 abbrev pub step_meets : DomId → Step → Touch → Bool
-step_meets d z (touches.Entry dom gref) = is_on d z dom.0 gref.0
+step_meets d z (touches.Entry dom gref) = is_on d z dom.0 gref.0 && not (looks_body z)
+step_meets d z (WholeEntry dom gref) = is_on d z dom.0 gref.0
 step_meets d z (LooksHeader dom) = stores_header d z dom.0
 step_meets d z (StoresHeader dom) = looks_header z dom.0
 step_meets d z (Reads dom frame) = writes_frame_at z dom.0 frame
@@ -194,8 +196,8 @@ meets_dest grants next d c =
 -- it meets something that the call of domain d may touch, or may touch through the mapping that it makes; what is done
 -- through other mappings is counted with those
 abbrev pub meets_call : List GrantedEntry → MappingUse → NextMove → DomId → ScriptCall → Bool
-meets_call grants uses next d (script_calls.Grant gref entry) = meets next (touches.Entry d gref)
-meets_call grants uses next d (script_calls.GrantBytes gref hex) = meets next (touches.Entry d gref)
+meets_call grants uses next d (script_calls.Grant gref entry) = meets next (WholeEntry d gref)
+meets_call grants uses next d (script_calls.GrantBytes gref hex) = meets next (WholeEntry d gref)
 meets_call grants uses next d (script_calls.Revoke gref) = meets next (touches.Entry d gref)
 meets_call grants uses next d (script_calls.Withdraw gref) = meets next (touches.Entry d gref)
 meets_call grants uses next d (script_calls.Demote gref) = meets next (touches.Entry d gref)

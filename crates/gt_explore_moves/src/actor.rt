@@ -57,10 +57,10 @@ fn unlabel<'a>(mappings: &mut Vec<LabelledMapping<'a>>, label: Option<&'a [u8]>)
 }
 
 impl<'a> Actor<'a> {
-    ghost use Rattle.std.specs.Prelude.{◌≡◌, ◌+◌, ◌<◌, ◌^◌, ◌++◌, [], ◌∷◌, OnOk, IfOk};
+    ghost use Rattle.std.specs.Prelude.{◌≡◌, ◌+◌, ◌<◌, ◌^◌, ◌++◌, [], ◌∷◌, OnOk};
     ghost use Rattle.gt_explore_moves.specs.Starting.{giving_actor, opened_actor, passed_actor};
     ghost use Rattle.gt_explore_moves.specs.Mappings.{labels_of, mapping_pins, apart_from, label_bytes, given_back};
-    ghost use Rattle.gt_explore_moves.specs.Copies.{IsFirstActor, SameActor};
+    ghost use Rattle.gt_explore_moves.specs.Copies.{IsFirstActor};
     ghost use Rattle.gt_explore_moves.specs.Ticking.{CallIsOver, mappings_after};
 
     /// Makes a domain before the first task of its list.
@@ -72,17 +72,6 @@ impl<'a> Actor<'a> {
             mappings: Vec::new(alloc),
             open: None,
         }
-    }
-
-    /// Copies the domain.
-    pub fn copy(&self, alloc: Global) -> Result<Actor<'a>, AllocError>
-        ensures { IfOk result (SameActor self.now) }
-    {
-        Ok(Actor {
-            next: self.next,
-            mappings: Vec::from_slice(alloc, self.mappings.as_slice())?,
-            open: self.open,
-        })
     }
 
     /// Begins its next task with a call, whose first step is this.

@@ -3,30 +3,34 @@ use crate::actor::{Actor, ActorCall, LabelledMapping};
 use crate::parts::PartInState;
 use crate::phases::{Digest, mix_held, mix_phase};
 use crate::scene::SearchContext;
-use gt_calls::{BodyWord, PinHolder, Step};
-use gt_explore_state::{SparsePage, SparseTable};
-use gt_types::GrantRef;
+use gt_calls::{BodyWord, OwnerEntry, PinHolder, Step};
+use gt_core::PinCounts;
+use gt_explore_state::{SparsePage, SparseTable, TableRow};
 
-// Mixes in the entries that are not in their initial state.
-fn mix_entries(digest: &mut Digest, first_gen: u32, table: &SparseTable) {
-    let untouched = table.word(first_gen, GrantRef(u32::MAX));
-    let count = table.counts.len().max(table.own.len());
-    for at in 0..count {
-        let gref = GrantRef((at % 4_294_967_296) as u32);
-        let word = table.word(first_gen, gref);
-        let first = table.body(gref, BodyWord::First);
-        let second = table.body(gref, BodyWord::Second);
-        if word != untouched || first != 0 || second != 0 {
-            digest.mix_all(&[1, at as u64, word, first, second]);
-        }
+// Mixes in what the owner knows of the entries that have a row.
+fn mix_own(digest: &mut Digest, own: &[TableRow<OwnerEntry>]) {
+    for row in own {
+        digest.mix_all(&[1, u64::from(row.gref.0), row.value.idle_word()]);
     }
     digest.mix(0)
 }
 
-fn mix_table(digest: &mut Digest, first_gen: u32, table: &SparseTable) {
+// Mixes in the pins and body words of the entries that have a row.
+fn mix_counts(digest: &mut Digest, counts: &[TableRow<PinCounts>]) {
+    for row in counts {
+        let pins = u64::from(row.value.reads()) << 32 | u64::from(row.value.writes());
+        let first = row.value.body(BodyWord::First);
+        let second = row.value.body(BodyWord::Second);
+        digest.mix_all(&[1, u64::from(row.gref.0), pins, first, second]);
+    }
+    digest.mix(0)
+}
+
+fn mix_table(digest: &mut Digest, table: &SparseTable) {
     let header = table.header;
     digest.mix_all(&[u64::from(header.version), u64::from(header.frames)]);
-    mix_entries(digest, first_gen, table)
+    mix_own(digest, table.own.as_slice());
+    mix_counts(digest, table.counts.as_slice())
 }
 
 // Mixes in the bytes that are not zero, with their places.
@@ -108,9 +112,7 @@ impl<'s, 'a> SearchContext<'s, 'a> {
         match part {
             PartInState::Flags(told) => mix_flags(&mut digest, told.as_slice()),
             PartInState::Domain(actor) => mix_actor(&mut digest, actor),
-            PartInState::Table(table) => {
-                mix_table(&mut digest, self.roster.config().first_gen, table);
-            }
+            PartInState::Table(table) => mix_table(&mut digest, table),
             PartInState::Page(page) => mix_page(&mut digest, page),
         }
         digest.value

@@ -20,7 +20,9 @@
 mod actor;
 mod calls;
 mod digests;
+mod flag_runs;
 mod granted;
+mod kept_actor;
 mod moves;
 mod names;
 mod partial;

@@ -19,10 +19,10 @@ use crate::calls::{CallOpening, go_on, open_call};
 use crate::names::names_of;
 use crate::scene::{SearchContext, SearchState};
 use gt_calls::{
-    Action, Call, CallResult, CallerState, Handles, HeldPin, Observation, Request, Step,
+    Action, Call, CallResult, CallerState, Handles, HeldPin, Observation, OwnerEntry, Request, Step,
 };
 use gt_core::{Answer, Bytes, answer_of};
-use gt_entry::Entry;
+use gt_entry::{Entry, Header};
 use gt_explore_search::{SearchFault, Turn, TurnResult};
 use gt_explore_state::{SparseState, SparseTable};
 use gt_script::{RunAction, RunTask};
@@ -91,12 +91,11 @@ impl<'s, 'a> SearchContext<'s, 'a> {
     ghost use Rattle.gt_script.specs.Lists.{RunTask};
     ghost use Rattle.gt_explore_moves.specs.Starting.{BeginsAsRun, GivesAsRun, IsNextCall, MovesAsRun, PrintsLine};
     ghost use Rattle.gt_explore_moves.specs.Starting.{held_but};
-    ghost use Rattle.gt_calls.specs.Following.{Goes, IsLeftAlike};
     ghost use Rattle.gt_model.specs.Rules.{CallerKnowledge};
     ghost use Rattle.gt_calls.specs.Known.{knows};
     ghost use Rattle.gt_script_runs.specs.Rights.{may_by};
     ghost use Rattle.gt_explore_moves.specs.Beginnings.{BeginsAlike, OpensSo};
-    ghost use Rattle.gt_explore_moves.specs.Calls.{GoesAlong, KnowsTable, SerialsRise, ShowsCalls, handles_at, known_in, no_mappings};
+    ghost use Rattle.gt_explore_moves.specs.Calls.{GoesAlong, KnowsTable, SerialsRise, ShowsCalls, handles_at, known_in};
     ghost use Rattle.gt_explore_moves.specs.Ends.{tasks_at};
     ghost use Rattle.gt_model.specs.Legal.{IsItemOf, IsRight};
     ghost use Rattle.gt_model.specs.declared.trace.Event.TheVariants.{Tick};
@@ -107,21 +106,32 @@ impl<'s, 'a> SearchContext<'s, 'a> {
     ghost use Rattle.gt_explore_moves.specs.Ticking.{ShowsAt};
     ghost use Rattle.gt_explore_moves.specs.Ticking.{TickLeads, TicksAsRun, bytes_by, task_in};
     ghost use Rattle.gt_explore_moves.specs.declared.scene.SearchState.{SearchState};
+    ghost use Rattle.gt_explore_state.specs.declared.table.SparseTable.{SparseTable};
+    ghost use Rattle.gt_explore_state.specs.Rows.{ListsEntries};
     ghost use Rattle.gt_explore_state.specs.Shows.{PagesShow};
 
-    // Returns what a domain knows, if these are its mappings.
+    // Lists what a domain knows of its own entries.
+    fn entries_of(&self, table: &SparseTable) -> Result<Vec<OwnerEntry>, AllocError>
+        ensures { IfOk result (λ own. ListsEntries self.now.roster.first_gen table.now.own.items own.items) }
+    {
+        table.owner_entries(self.alloc, self.roster.config().first_gen)
+    }
+
+    // Returns what a domain knows, if these are its own entries, its header and its mappings.
     fn known<'k>(
         &'k self,
-        table: &'k SparseTable,
+        own: &'k [OwnerEntry],
+        header: Header,
         mappings: &'k Handles<HeldPin>,
     ) -> CallerState<'k, ScriptPolicy>
-        ensures { knows may_by result ≡ known_in self.now table.now mappings.now }
+        ensures { (t : SparseTable) → ListsEntries self.now.roster.first_gen t.own.items own.now → t.header ≡ header →
+            knows may_by result ≡ known_in self.now t mappings.now }
     {
         CallerState {
             config: &self.roster,
             rights: &self.rights,
-            own: table.own.as_slice(),
-            header: table.header,
+            own,
+            header,
             mappings,
         }
     }
@@ -133,31 +143,41 @@ impl<'s, 'a> SearchContext<'s, 'a> {
         mappings: &Handles<HeldPin>,
         dom: DomId,
         request: Request<'_>,
-    ) -> CallOpening
-        ensures { (k : CallerKnowledge) →
+    ) -> Result<CallOpening, AllocError>
+        ensures { IfOk result (λ opened. (k : CallerKnowledge) →
             BeginsAlike k (known_in self.now table.now mappings.now) dom request.entry →
-            OpensSo k dom request.entry result }
+            OpensSo k dom request.entry opened) }
     {
-        open_call(&self.known(table, mappings), dom, request)
+        let own = self.entries_of(table)?;
+        Ok(open_call(
+            &self.known(own.as_slice(), table.header, mappings),
+            dom,
+            request,
+        ))
     }
 
     // Continues a call after a step with this observation. After its first step a call doesn't look at the mappings of
     // its domain.
-    fn next(&self, table: &SparseTable, last: ActorCall, seen: Observation) -> (Call, Action)
-        ensures caller { result.0.caller ≡ last.call.caller }
-        ensures request { result.0.request ≡ last.call.request }
-        ensures goes { (k : CallerKnowledge) →
-            IsLeftAlike k (known_in self.now table.now no_mappings) last.call seen →
-            Goes k last.call seen result.0 result.1 }
-        ensures along { (s : Setting) (h : History) (d : DomId) (c : Underway) (z : Step) →
+    fn next(
+        &self,
+        table: &SparseTable,
+        last: ActorCall,
+        seen: Observation,
+    ) -> Result<(Call, Action), AllocError>
+        ensures { IfOk result (λ went. (s : Setting) (h : History) (d : DomId) (c : Underway) (z : Step) →
             GoesAlong s h d c last → maps_answered_at h d.0 < SERIAL_LIMIT →
             SerialsRise 0 (handles_at h d) (maps_answered_at h d.0) →
             path (known_at s h d) d c.request (values c) ≡ Some (Action.Step z) → seen ≡ seen_by s h d z →
             StillKnows s h d self.now table.now last.call →
-            GoesOnAsRun s h d c z last.task result.0 result.1 }
+            GoesOnAsRun s h d c z last.task went.0 went.1) }
     {
+        let own = self.entries_of(table)?;
         let mappings = Handles::new(self.alloc);
-        go_on(&self.known(table, &mappings), last.call, seen)
+        Ok(go_on(
+            &self.known(own.as_slice(), table.header, &mappings),
+            last.call,
+            seen,
+        ))
     }
 
     // Returns the line that the answer of a task prints.
@@ -186,7 +206,7 @@ impl<'s, 'a> SearchContext<'s, 'a> {
         let bytes = call_bytes(self.alloc, call)?;
         let names = names_of(self.alloc, task.dom, actor.mappings.as_slice())?;
         let request = request_of(&names.labels, task.dom, bytes.as_slice(), call);
-        Ok(self.opening(table, &names.mappings, task.dom, request))
+        Ok(self.opening(table, &names.mappings, task.dom, request)?)
     }
 
     // Makes the move that begins the call of a task.
@@ -244,7 +264,8 @@ impl<'s, 'a> SearchContext<'s, 'a> {
             return Ok(None);
         };
         let request = Request::Release { handle };
-        match self.opening(table, &names.mappings, dom, request) {
+        let opened = self.opening(table, &names.mappings, dom, request)?;
+        match opened {
             CallOpening::Open(call, step) => Ok(Some((call, step))),
             CallOpening::Done(_) => Ok(None),
         }
@@ -414,7 +435,8 @@ impl<'s, 'a> SearchContext<'s, 'a> {
             return Ok(TurnResult::Nowhere);
         };
         actor.make(open.step);
-        let (call, action) = self.next(table, open, seen);
+        let went = self.next(table, open, seen)?;
+        let (call, action) = went;
         match action {
             Action::Step(step) => {
                 let task = open.task;

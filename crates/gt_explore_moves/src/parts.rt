@@ -1,5 +1,7 @@
 //! The parts of states.
 use crate::actor::Actor;
+use crate::flag_runs::FlagRuns;
+use crate::kept_actor::KeptActor;
 use crate::scene::SearchState;
 use gt_explore_state::{SparsePage, SparseState, SparseTable};
 use std::alloc::{AllocError, Global};
@@ -8,9 +10,9 @@ use std::alloc::{AllocError, Global};
 #[derive(Drop)]
 pub enum StatePart<'a> {
     /// For each flag, whether it was raised.
-    Flags(Vec<bool>),
+    Flags(FlagRuns),
     /// A domain.
-    Domain(Actor<'a>),
+    Domain(KeptActor<'a>),
     /// The grant table of a domain.
     Table(SparseTable),
     /// The bytes of a frame.
@@ -18,26 +20,19 @@ pub enum StatePart<'a> {
 }
 
 impl<'a> StatePart<'a> {
-    ghost use Rattle.std.specs.Prelude.{◌≡◌, IfOk};
-    ghost use Rattle.gt_explore_moves.specs.Parts.{SamePart, part_shown};
-
-    // Borrows the part.
-    fn borrowed(&self) -> PartInState<'_, 'a>
-        ensures { part_shown result ≡ self.now }
-    {
-        match self {
-            StatePart::Flags(told) => PartInState::Flags(told),
-            StatePart::Domain(actor) => PartInState::Domain(actor),
-            StatePart::Table(table) => PartInState::Table(table),
-            StatePart::Page(page) => PartInState::Page(page),
-        }
-    }
+    ghost use Rattle.std.specs.Prelude.{IfOk};
+    ghost use Rattle.gt_explore_moves.specs.Parts.{SamePart};
 
     /// Copies the part.
     pub fn copy(&self, alloc: Global) -> Result<StatePart<'a>, AllocError>
         ensures { IfOk result (SamePart self.now) }
     {
-        self.borrowed().copy(alloc)
+        match self {
+            StatePart::Flags(told) => Ok(StatePart::Flags(told.copy(alloc)?)),
+            StatePart::Domain(actor) => Ok(StatePart::Domain(actor.copy(alloc)?)),
+            StatePart::Table(table) => Ok(StatePart::Table(table.copy(alloc)?)),
+            StatePart::Page(page) => Ok(StatePart::Page(page.copy(alloc)?)),
+        }
     }
 }
 
@@ -63,10 +58,8 @@ impl<'p, 'a> PartInState<'p, 'a> {
         ensures { IfOk result (SamePart (part_shown self.entry)) }
     {
         match self {
-            PartInState::Flags(told) => {
-                Ok(StatePart::Flags(Vec::from_slice(alloc, told.as_slice())?))
-            }
-            PartInState::Domain(actor) => Ok(StatePart::Domain(actor.copy(alloc)?)),
+            PartInState::Flags(told) => Ok(StatePart::Flags(FlagRuns::of(alloc, told.as_slice())?)),
+            PartInState::Domain(actor) => Ok(StatePart::Domain(KeptActor::of(alloc, actor)?)),
             PartInState::Table(table) => Ok(StatePart::Table(table.copy(alloc)?)),
             PartInState::Page(page) => Ok(StatePart::Page(page.copy(alloc)?)),
         }
@@ -146,8 +139,11 @@ impl<'a> SearchState<'a> {
         ensures { OnOk result (lists_in self.new ≡ with_part (lists_in self.old) part.entry) }
     {
         match part {
-            StatePart::Flags(told) => self.told = told,
-            StatePart::Domain(actor) => self.actors.push(actor)?,
+            StatePart::Flags(told) => {
+                self.told.clear();
+                told.append_to(&mut self.told)?;
+            }
+            StatePart::Domain(actor) => self.actors.push(actor.into_actor())?,
             StatePart::Table(table) => self.ground.tables.push(table)?,
             StatePart::Page(page) => self.ground.pages.push(page)?,
         }

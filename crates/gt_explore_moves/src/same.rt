@@ -3,27 +3,12 @@
 //! Each function here returns true only for equal values, and may return false for them: the search then keeps a part
 //! twice.
 ghost use Rattle.std.specs.Prelude.{◌≡◌, IsTrue};
-ghost use Rattle.gt_explore_moves.specs.Copies.{SameActor};
 ghost use Rattle.gt_explore_moves.specs.Parts.{SamePart, part_shown};
 ghost use Rattle.gt_explore_moves.specs.Mappings.{labels_of, mapping_pins, label_bytes};
 
-use crate::actor::{Actor, ActorCall, LabelledMapping};
+use crate::actor::{ActorCall, LabelledMapping};
 use crate::parts::{PartInState, StatePart};
 use gt_explore_state::{same_call, same_step};
-
-fn same_flags(one: &[bool], other: &[bool]) -> bool
-    ensures { IsTrue result → one.now ≡ other.now }
-{
-    if one.len() != other.len() {
-        return false;
-    }
-    'flags: for at in 0..one.len() {
-        if one[at] != other[at] {
-            return false;
-        }
-    }
-    true
-}
 
 fn same_task(one: Option<usize>, other: Option<usize>) -> bool
     ensures { IsTrue result → other ≡ one }
@@ -31,7 +16,8 @@ fn same_task(one: Option<usize>, other: Option<usize>) -> bool
     one == other
 }
 
-fn same_open(one: Option<ActorCall>, other: Option<ActorCall>) -> bool
+/// Returns whether the open calls are the same.
+pub fn same_open(one: Option<ActorCall>, other: Option<ActorCall>) -> bool
     ensures { IsTrue result → other ≡ one }
 {
     match (one, other) {
@@ -55,7 +41,8 @@ fn same_label(one: Option<&[u8]>, other: Option<&[u8]>) -> bool
     }
 }
 
-fn same_mappings(one: &[LabelledMapping], other: &[LabelledMapping]) -> bool
+/// Returns whether the mappings have the same pins and labels.
+pub fn same_mappings(one: &[LabelledMapping], other: &[LabelledMapping]) -> bool
     ensures pins { IsTrue result → mapping_pins other.now ≡ mapping_pins one.now }
     ensures labels { IsTrue result → labels_of other.now ≡ labels_of one.now }
 {
@@ -70,24 +57,13 @@ fn same_mappings(one: &[LabelledMapping], other: &[LabelledMapping]) -> bool
     true
 }
 
-fn same_actor(one: &Actor, other: &Actor) -> bool
-    ensures { IsTrue result → SameActor one.now other.now }
-{
-    one.next == other.next
-        && same_mappings(one.mappings.as_slice(), other.mappings.as_slice())
-        && same_open(one.open, other.open)
-}
-
 /// Returns whether the parts are the same.
 pub fn same_parts(one: PartInState<'_, '_>, other: &StatePart) -> bool
     ensures { IsTrue result → SamePart (part_shown one.entry) other.now }
 {
     match (one, other) {
-        (PartInState::Flags(told), StatePart::Flags(t)) => same_flags(
-            t.as_slice(),
-            told.as_slice(),
-        ),
-        (PartInState::Domain(actor), StatePart::Domain(a)) => same_actor(actor, a),
+        (PartInState::Flags(told), StatePart::Flags(t)) => t.is_of(told.as_slice()),
+        (PartInState::Domain(actor), StatePart::Domain(a)) => a.is_of(actor),
         (PartInState::Table(table), StatePart::Table(t)) => table.is_same(t),
         (PartInState::Page(page), StatePart::Page(p)) => page.is_same(p),
         _ => false,

@@ -12,7 +12,7 @@ use crate::granted::{GrantedEntry, entries_granted};
 use gt_explore_search::SearchFault;
 use gt_explore_state::SparseState;
 use gt_roster::Roster;
-use gt_script::{RunScript, RunTask, Script};
+use gt_script::{RunScript, RunTask, ScriptHead};
 use gt_script_lines::Text;
 use gt_script_runs::ScriptPolicy;
 use gt_types::{Config, DomainConfig, StartFault};
@@ -43,7 +43,7 @@ pub struct SearchState<'a> {
 }
 
 // Returns the domains of a script, with an index by their numbers.
-fn roster_of(alloc: Global, script: &Script) -> Result<Roster, SearchFault>
+fn roster_of(alloc: Global, script: &ScriptHead) -> Result<Roster, SearchFault>
     requires { CanConfigure (contents_of script.now) }
     ensures setting { IfOk result (λ roster. IsSettingOf roster (setting_of_script (contents_of script.now))) }
     ensures limits { IfOk result (λ roster. IsWithinLimits roster) }

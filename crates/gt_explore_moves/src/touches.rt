@@ -3,7 +3,7 @@ ghost use Rattle.std.specs.Prelude.{◌≡◌, IfOk};
 ghost use Rattle.std.specs.List.{list_any};
 ghost use Rattle.gt_explore_moves.specs.declared.actor.LabelledMapping.{LabelledMapping};
 ghost use Rattle.gt_model.specs.Path.{gref_of};
-ghost use Rattle.gt_commuting.specs.Swapping.{looks_header, stores_header};
+ghost use Rattle.gt_commuting.specs.Swapping.{looks_body, looks_header, stores_header};
 ghost use Rattle.gt_explore_moves.specs.Touches.{is_access_step, is_load, is_on, is_store, is_write, meets};
 ghost use Rattle.gt_explore_moves.specs.Touches.{meets_bytes};
 ghost use Rattle.gt_explore_moves.specs.Touches.{meets_call, meets_dest, meets_leg, meets_mapping};
@@ -24,8 +24,10 @@ use gt_types::{Dir, DomId, GrantRef};
 /// A part of a run's state, and what is done to it.
 #[derive(Clone, Copy)]
 pub enum Touch {
-    /// The words of an entry are read or changed.
+    /// The words of an entry are read, or its control word is changed.
     Entry(DomId, GrantRef),
+    /// The words of an entry are read or changed, its body words too.
+    WholeEntry(DomId, GrantRef),
     /// The header of a table is read.
     LooksHeader(DomId),
     /// The header of a table is stored.
@@ -78,6 +80,13 @@ fn is_on(dom: DomId, step: Step, owner: DomId, gref: GrantRef) -> bool
     }
 }
 
+// Returns whether a step reads a body word of an entry.
+fn looks_body(step: Step) -> bool
+    ensures { result ≡ looks_body step }
+{
+    matches!(step, Step::LookBody { .. })
+}
+
 // Returns whether a step reads the header of this domain's table.
 fn looks_header(step: Step, owner: DomId) -> bool
     ensures { result ≡ looks_header step owner.0 }
@@ -126,7 +135,8 @@ fn step_meets(dom: DomId, step: Step, touch: Touch) -> bool
     ensures { result ≡ step_meets dom step touch }
 {
     match touch {
-        Touch::Entry(owner, gref) => is_on(dom, step, owner, gref),
+        Touch::Entry(owner, gref) => is_on(dom, step, owner, gref) && !looks_body(step),
+        Touch::WholeEntry(owner, gref) => is_on(dom, step, owner, gref),
         Touch::LooksHeader(owner) => stores_header(dom, step, owner),
         Touch::StoresHeader(owner) => looks_header(step, owner),
         Touch::Reads(owner, frame) => writes_at(step, owner, frame),
@@ -355,9 +365,10 @@ fn meets_call(
     ensures { result ≡ meets_call grants.now uses next dom call.now }
 {
     match call {
-        ScriptCall::Grant { gref, .. }
-        | ScriptCall::GrantBytes { gref, .. }
-        | ScriptCall::Revoke { gref }
+        ScriptCall::Grant { gref, .. } | ScriptCall::GrantBytes { gref, .. } => {
+            meets(next, Touch::WholeEntry(dom, *gref))
+        }
+        ScriptCall::Revoke { gref }
         | ScriptCall::Withdraw { gref }
         | ScriptCall::Demote { gref }
         | ScriptCall::Promote { gref } => meets(next, Touch::Entry(dom, *gref)),

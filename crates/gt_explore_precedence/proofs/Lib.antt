@@ -1,2 +1,4 @@
+pub mod Judged
+mod OrdersAnswered
 pub mod PairLemmas
 pub mod Preceded

@@ -20,9 +20,9 @@ use Rattle.gt_explore_faults.specs.declared.fault.ExploreFault.{ExploreFault}
 use Rattle.gt_explore_faults.specs.declared.fault.ExploreFault.TheVariants.{Play}
 use Rattle.gt_explore_verdict.specs.declared.judging.Verdict.{Verdict}
 use Rattle.gt_explore_precedence.specs.Exploring.{AreRunsOf, IsRestFault, IsShownAs, JoinedExplored, PartsExplored}
-use Rattle.gt_explore_precedence.specs.Exploring.{PrecedingExplored, ReadsInOrder, RestExplored, is_always}
+use Rattle.gt_explore_precedence.specs.Exploring.{PrecedingExplored, ReadsInOrder, RestExplored, is_joined_freely}
 use Rattle.gt_explore_precedence.specs.Pairs.{IsPairsFault}
-use Rattle.gt_explore_precedence.specs.Terms.{has_other_mark, parts_between, rest_of}
+use Rattle.gt_explore_precedence.specs.Terms.{parts_between, rest_of}
 use Rattle.gt_explore_precedence.specs.declared.exploring.PrecedenceOptions.{PrecedenceOptions}
 
 module _ (all source : List ℕ) (parts : List (List ℕ)) (read : source ≡ take READ_LIMIT all) where
@@ -64,8 +64,7 @@ pub rest_repeated : (lines parts : List (List ℕ)) (text : List ℕ) (first sec
 rest_repeated lines parts text first second is twice =
     inr (inr ((first, second), refl, subst (λ (t : List ℕ). first_repeated lines (slice_split is_break t) ≡ Some (first, second)) is twice))
 
--- the claim is not `always`, and its terms are all joined by `&`
-pub joined : (all : List ℕ) (asked : PrecedenceOptions) (old new : Option (List ℕ)) (r : Result Verdict ClaimsFault) → is_always asked.claim ≡ false → has_other_mark asked.expression.now ≡ false
-    → PartsExplored all asked (parts_between asked.expression.now) old new r → PrecedingExplored all asked old new r
-joined all asked old new r kind marks h =
-    subst (λ (b : Bool). JoinedExplored b (has_other_mark asked.expression.now) all asked old new r) (sym kind) (subst (λ (b : Bool). JoinedExplored false b all asked old new r) (sym marks) h)
+-- the terms of a claim are joined by `&`, or in another way
+pub joined : (all : List ℕ) (asked : PrecedenceOptions) (old new : Option (List ℕ)) (r : Result Verdict ClaimsFault) (b : Bool)
+    → is_joined_freely asked.claim asked.expression.now (parts_between asked.expression.now) ≡ b → JoinedExplored b all asked old new r → PrecedingExplored all asked old new r
+joined all asked old new r b is h = inl (subst (λ (c : Bool). JoinedExplored c all asked old new r) (sym is) h)

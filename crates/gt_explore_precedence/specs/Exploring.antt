@@ -1,8 +1,8 @@
 -- What is written of a claim with terms of order, by the result.
-use Rattle.std.specs.Prelude.{◌≡◌, ◌⊎◌, ◌+◌, ℕ, Bool, true, false, List, take, Option, Some, Result, Ok, Err}
+use Rattle.std.specs.Prelude.{◌≡◌, ◌⊎◌, ◌+◌, ◌&&◌, ◌||◌, ℕ, Bool, true, false, List, take, Option, Some, Result, Ok, Err}
 use Rattle.std.specs.Borrow.{Bor}
 use Rattle.std.specs.Io.KnownBytes.{Keeps}
-use Rattle.std.specs.List.{slice_split}
+use Rattle.std.specs.List.{list_any, slice_split}
 use Rattle.std.specs.Str.Lines.{lines as lines_in}
 use Rattle.gt_call_names.specs.Naming.{first_repeated, is_break, with_line_numbers}
 use Rattle.gt_script.specs.Preceding.{preceding_all}
@@ -17,14 +17,15 @@ use Rattle.gt_explore_answers.specs.declared.asking.ExploreRequest.TheVariants a
 use Rattle.gt_explore_faults.specs.Faults.{claims_memory}
 use Rattle.gt_explore_faults.specs.declared.claims.ClaimsFault.{ClaimsFault}
 use Rattle.gt_explore_faults.specs.declared.claims.ClaimsFault.TheVariants as claims_faults
-use Rattle.gt_explore_faults.specs.declared.claims.PrecedenceFault.TheVariants as precedence_faults
 use Rattle.gt_explore_faults.specs.declared.fault.ExploreFault.{ExploreFault}
 use Rattle.gt_explore_faults.specs.declared.fault.ExploreFault.TheVariants.{Term}
 use Rattle.gt_explore_verdict.specs.declared.judging.Claim.{Claim}
 use Rattle.gt_explore_verdict.specs.declared.judging.Claim.TheVariants.{Find, Never, Always}
 use Rattle.gt_explore_verdict.specs.declared.judging.Verdict.{Verdict}
 use Rattle.gt_explore_precedence.specs.Pairs.{ArePairs, IsPairsFault}
-use Rattle.gt_explore_precedence.specs.Terms.{has_other_mark, orders_before, parts_between, rest_of}
+use Rattle.gt_explore_precedence.specs.Terms.{has_not, has_other_mark, has_precedence, orders_before, parts_between}
+use Rattle.gt_explore_precedence.specs.Terms.{rest_of}
+use Rattle.gt_explore_precedence.specs.Orders.{OrdersExplored}
 use Rattle.gt_explore_precedence.specs.declared.exploring.PrecedenceOptions.{PrecedenceOptions}
 
 -- the runs that are explored
@@ -96,17 +97,27 @@ is_always Always = true
 is_always Find = false
 is_always Never = false
 
--- the same, if the claim is not `always` and the terms are all joined by `&`
-abbrev pub JoinedExplored : Bool → Bool → List ℕ → PrecedenceOptions → Option (List ℕ) → Option (List ℕ)
-    → Result Verdict ClaimsFault → Type 0
-JoinedExplored true marked input asked old new r =
-    (r ≡ Err (claims_faults.Precedence precedence_faults.Always)) × Keeps old new
-JoinedExplored false true input asked old new r =
-    (r ≡ Err (claims_faults.Precedence precedence_faults.Joined)) × Keeps old new
-JoinedExplored false false input asked old new r = PartsExplored input asked (parts_between asked.expression.now) old new r
+-- a part has a term of order after `!`
+abbrev pub is_negated_order : List ℕ → Bool
+is_negated_order part = has_not part && has_precedence part
 
--- what was written of a claim
+abbrev pub negates_order : List (List ℕ) → Bool
+negates_order parts = list_any is_negated_order parts
+
+-- the claim is `always`, the terms are not all joined by `&`, or an order comes after `!`
+abbrev pub is_joined_freely : Claim → List ℕ → List (List ℕ) → Bool
+is_joined_freely claim expression parts = (is_always claim || has_other_mark expression) || negates_order parts
+
+-- the same for terms that are joined so; or, if they are not, what was written about each order
+abbrev pub JoinedExplored : Bool → List ℕ → PrecedenceOptions → Option (List ℕ) → Option (List ℕ)
+    → Result Verdict ClaimsFault → Type 0
+JoinedExplored true input asked old new r = OrdersExplored input asked old new r
+JoinedExplored false input asked old new r = PartsExplored input asked (parts_between asked.expression.now) old new r
+
+-- what was written of a claim; nothing, if an allocation failed before it was read
 abbrev pub PrecedingExplored : List ℕ → PrecedenceOptions → Option (List ℕ) → Option (List ℕ)
     → Result Verdict ClaimsFault → Type 0
 PrecedingExplored input asked old new r =
-    JoinedExplored (is_always asked.claim) (has_other_mark asked.expression.now) input asked old new r
+    JoinedExplored (is_joined_freely asked.claim asked.expression.now (parts_between asked.expression.now)) input asked
+    old new r
+    ⊎ ((r ≡ Err claims_memory) × Keeps old new)

@@ -11,7 +11,7 @@ use Rattle.gt_explore_faults.specs.declared.claims.PrecedenceFault.TheVariants a
 use Rattle.gt_script.specs.Lists.{RunTask}
 use Rattle.gt_script.specs.Preceding.{is_call}
 use Rattle.gt_script.specs.declared.precedence.Precedence.{Precedence}
-use Rattle.gt_explore_precedence.specs.Terms.{has_not, has_precedence, is_less}
+use Rattle.gt_explore_precedence.specs.Terms.{has_precedence, is_less}
 
 -- the words of a side
 
@@ -64,9 +64,7 @@ pair_cut lines tasks part (Some at) =
 
 -- the lines of the calls that a term such as `12<17` names
 abbrev pub pair_meant : List (List ℕ) → List RunTask → List ℕ → Result Precedence ClaimsFault
-pair_meant lines tasks part =
-    if has_not part then Err (claims_faults.Precedence precedence_faults.Joined)
-    else pair_cut lines tasks part (position is_less part)
+pair_meant lines tasks part = pair_cut lines tasks part (position is_less part)
 
 -- a fault is that of a result, or an allocation failed
 abbrev pub IsSideFault : {X : Type 0} → Result X ClaimsFault → ClaimsFault → Type 0

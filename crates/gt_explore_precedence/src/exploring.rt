@@ -7,17 +7,19 @@ ghost use Rattle.gt_script.specs.RunScripts.{CanConfigure, ReadsAsRun};
 ghost use Rattle.gt_script.specs.Contents.{contents_of};
 ghost use Rattle.gt_script.specs.Stuck.{AreNumbered};
 ghost use Rattle.gt_text.specs.declared.streams.TheConstants.{READ_LIMIT};
-ghost use Rattle.gt_explore_precedence.specs.Exploring.{AreRunsOf, IsRestFault, PrecedingExplored, RestExplored};
-ghost use Rattle.gt_explore_precedence.specs.Exploring.{IsShownAs, PartsExplored, is_always};
+ghost use Rattle.gt_explore_precedence.specs.Exploring.{AreRunsOf, IsRestFault, PrecedingExplored, RestExplored, is_joined_freely};
+ghost use Rattle.gt_explore_precedence.specs.Exploring.{IsShownAs, PartsExplored, is_always, is_negated_order};
+ghost use Rattle.gt_explore_precedence.specs.Exploring.{negates_order};
 ghost use Rattle.gt_explore_precedence.specs.Pairs.{IsPairsFault};
 ghost use Rattle.gt_explore_precedence.specs.Terms.{parts_between, rest_of};
 
-use crate::pairs::{pairs_of, preceding_all};
-use crate::terms::{has_other_mark, number_among, parts_in, rest_of};
+use crate::orders::explore_orders;
+use crate::pairs::{has_not, pairs_of, preceding_all};
+use crate::terms::{has_other_mark, has_precedence, number_among, parts_in, rest_of};
 use gt_call_names::{NameFault, numbered};
 use gt_explore::explore_script;
 use gt_explore_answers::{ExploreFormat, ExploreOptions, ExploreRequest};
-use gt_explore_faults::{ClaimsFault, ExploreFault, PrecedenceFault};
+use gt_explore_faults::{ClaimsFault, ExploreFault};
 use gt_explore_search::SearchWatch;
 use gt_explore_verdict::{Claim, Verdict};
 use gt_script::{RunScript, parse_run};
@@ -50,6 +52,28 @@ fn is_always(claim: Claim) -> bool
         Claim::Always => true,
         Claim::Find | Claim::Never => false,
     }
+}
+
+// Returns whether a part has a term of order after `!`.
+fn is_negated_order(part: &[u8]) -> bool
+    ensures { result ≡ is_negated_order part.now }
+{
+    has_not(part) && has_precedence(part)
+}
+
+// Returns whether a term of order comes after `!`.
+fn negates_order(parts: &[&[u8]]) -> bool
+    ensures { result ≡ negates_order (map (λ part. part.now) parts.now) }
+{
+    parts.iter().any(|part| is_negated_order(part))
+}
+
+// Returns whether the terms of a claim with these parts have to be judged order by order: the claim is `always`, an order
+// comes after `!`, or the terms are not all joined by `&`.
+fn is_joined_freely(asked: &PrecedenceOptions<'_>, parts: &[&[u8]]) -> bool
+    ensures { result ≡ is_joined_freely asked.now.claim asked.now.expression.now (map (λ part. part.now) parts.now) }
+{
+    is_always(asked.claim) || has_other_mark(asked.expression.as_bytes()) || negates_order(parts)
 }
 
 // Returns the script whose runs are those in which the calls that these parts name are in order.
@@ -168,15 +192,21 @@ fn explore_parts<'x, W: Write, T: SearchWatch>(
     explore_rest(alloc, &rest, writer, watch)
 }
 
-/// Decides a claim whose expression has terms of order, such as `17=ok & 12<17`, on the texts that a script may give. A
-/// text counts if it satisfies the other terms, and some run that gives it has the calls in that order. What is written
-/// is what `explore` of `gt_explore` writes for the other terms and for those runs. A script for `play` shows such a run.
+/// Decides a claim whose expression has terms of order, such as `17=ok & 12<17`, on the orders of a script.
+///
+/// If the claim is `find` or `never` and its terms are joined by `&` alone, with no order after `!`, a text counts if it
+/// satisfies the other terms, and some run that gives it has the calls in that order. What is written is what `explore`
+/// of `gt_explore` writes for the other terms and for those runs. A script for `play` shows such a run.
+///
+/// For any other claim a text comes once for each set of terms of order that hold in an order with it. `find` prints
+/// those whose order satisfies the expression. Another claim prints the verdict, or the first text that shows that it does
+/// not hold, as a comment. In `Json`, it is the object of the first text that shows the verdict, and the last object.
+///
 /// `source` is the text of the script, or its first 1,048,577 bytes.
 ///
 /// # Errors
-/// `Precedence` if the claim is `always`, if the terms are not all joined by `&`, or if a side names no call. `Repeated`
-/// if a name is that of two calls. `Explore` with a fault of `explore`, but for failed reads. Nothing was written then,
-/// but for a prefix of the text if a write failed.
+/// `Precedence` if a side names no call. `Repeated` if a name is that of two calls. `Explore` with a fault of `explore`,
+/// but for failed reads. Nothing was written then, but for a prefix of the text if a write failed.
 pub fn explore_preceding<W: Write, T: SearchWatch>(
     alloc: Global,
     asked: &PrecedenceOptions<'_>,
@@ -187,13 +217,9 @@ pub fn explore_preceding<W: Write, T: SearchWatch>(
     ensures { (all : List ℕ) → source.now ≡ take READ_LIMIT all →
         PrecedingExplored all asked.now (W.contents writer.old) (W.contents writer.new) result }
 {
-    let expression = asked.expression.as_bytes();
-    if is_always(asked.claim) {
-        return Err(ClaimsFault::Precedence(PrecedenceFault::Always));
+    let parts = parts_in(alloc, asked.expression.as_bytes())?;
+    if is_joined_freely(asked, parts.as_slice()) {
+        return explore_orders(alloc, asked, source, writer, watch);
     }
-    if has_other_mark(expression) {
-        return Err(ClaimsFault::Precedence(PrecedenceFault::Joined));
-    }
-    let parts = parts_in(alloc, expression)?;
     explore_parts(alloc, asked, source, parts.as_slice(), writer, watch)
 }

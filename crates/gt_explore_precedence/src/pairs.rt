@@ -36,7 +36,8 @@ fn is_not(byte: u8) -> bool
     byte == b'!'
 }
 
-fn has_not(part: &[u8]) -> bool
+/// Returns whether a part of an expression has `!`.
+pub fn has_not(part: &[u8]) -> bool
     ensures { result ≡ has_not part.now }
 {
     part.iter().any(|b| is_not(*b))
@@ -136,9 +137,6 @@ fn pair_meant(
     ensures ok { IfOk result (λ pair. pair_meant (lines_in source.now) script.now.tasks part.now ≡ Ok pair) }
     ensures fault { IfErr result (IsSideFault (pair_meant (lines_in source.now) script.now.tasks part.now)) }
 {
-    if has_not(part) {
-        return Err(ClaimsFault::Precedence(PrecedenceFault::Joined));
-    }
     let Some(at) = less_in(part) else {
         return Err(ClaimsFault::Precedence(PrecedenceFault::Call));
     };
@@ -172,7 +170,7 @@ fn push_pair(
 /// Returns the lines of the calls that each term of order among these parts names.
 ///
 /// # Errors
-/// `Joined` if a term has a `!`; `Call` if no call has the number or the name of a side; `Repeated` if two have it; and
+/// `Call` if no call has the number or the name of a side; `Repeated` if two have it; and
 /// want of memory.
 pub fn pairs_of(
     alloc: Global,

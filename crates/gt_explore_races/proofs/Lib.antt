@@ -3,5 +3,6 @@ pub mod Beginning
 pub mod Orders
 pub mod Remade
 pub mod Saying
+pub mod Sorting
 pub mod Spaces
 pub mod Stepping

@@ -43,14 +43,14 @@ use Rattle.gt_script.specs.Contents.{type_names}
 use Rattle.gt_script.specs.Lists.{RunAction, RunTask}
 use Rattle.gt_script.specs.RunContents.{RunContents}
 use Rattle.gt_script.specs.RunScripts.{list_of}
-use Rattle.gt_script.specs.declared.tasks.RunActionBy.TheVariants.{Await, Do, Tell}
+use Rattle.gt_script.specs.declared.tasks.RunAction.TheVariants.{Await, Do, Tell}
 use Rattle.gt_script_runs.specs.Playing.{setting_of_script}
 use Rattle.gt_types.specs.declared.DomId.{DomId}
 use Rattle.gt_types.specs.declared.config.DomainConfig.{DomainConfig}
 use Rattle.gt_explore_races.proofs.Beginning.{AllCount, OpenCounts, counts-more, first-count, on}
 use Rattle.gt_explore_races.specs.Accesses.{Conflict, HasByte, bytes_read, bytes_written}
-use Rattle.gt_explore_races.specs.Races.{IsRaceOf, last_line, step_by, tasks_begun}
-use Rattle.gt_explore_races.specs.Spaces.{AreToRace, IsCallingLine, IsToAccess, MakesNext, RacePoint, race_ways, said_by}
+use Rattle.gt_explore_races.specs.Races.{IsRaceOf, MakesNext, last_line, step_by, tasks_begun}
+use Rattle.gt_explore_races.specs.Spaces.{AreToRace, IsCallingLine, IsToAccess, RacePoint, race_ways, said_by}
 use Rattle.gt_explore_races.specs.Texts.{race_of, race_text}
 use Rattle.gt_explore_races.specs.declared.racing.Race.{Race}
 
@@ -172,6 +172,32 @@ pub record EndsAtIt (scene : SearchContext) (r : Race) (p : Point) : Type 0 wher
   pub said : end.said ≡ Some (place, race_text r)
   pub within : place < length scene.roster.domains.items
 
+-- before the first access both are next
+module _ (c : RunContents) (k l : ℕ) (race : IsRaceOf c k l) where
+  abbrev made : Happening
+  made = step_by race.one race.first race.seen race.answer
+
+  abbrev made-next : Happening
+  made-next = step_by race.other race.second race.seen_next race.answer_next
+
+  pub one-next : MakesNext (setting_of_script c.head) (history_in race.before) race.one race.first
+  one-next = comes (setting_of_script c.head) race.before race.one race.first race.seen race.answer (may-follow c race.before made (made-next ∷ race.after) race.text race.order)
+
+  apart : (race.one.0 == race.other.0) ≡ false
+  apart = ne_eqb race.one.0 race.other.0 race.apart
+
+  abbrev item : Item
+  item = record { actor = race.one; happened = Stepped race.first race.seen; answer = race.answer }
+
+  after-first : history_in (race.before ++ made ∷ []) ≡ item ∷ history_in race.before
+  after-first = history_did race.before _ _
+
+  pub other-next : MakesNext (setting_of_script c.head) (history_in race.before) race.other race.second
+  other-next =
+      let order = subst (λ (hs : List Happening). IsOrderOf c hs race.text) (sym (append_assoc race.before (made ∷ []) (made-next ∷ race.after))) race.order in
+      let next = comes (setting_of_script c.head) (race.before ++ made ∷ []) race.other race.second race.seen_next race.answer_next (may-follow c (race.before ++ made ∷ []) made-next race.after race.text order) in
+      before-it (setting_of_script c.head) (history_in race.before) item race.other race.second apart (subst (λ (h : History). MakesNext (setting_of_script c.head) h race.other race.second) after-first next)
+
 module _ (scene : SearchContext) (c : RunContents) (is : IsSceneOf c scene) (k l : ℕ) (race : IsRaceOf c k l) where
   abbrev s : Setting
   s = setting_of_script c.head
@@ -185,23 +211,11 @@ module _ (scene : SearchContext) (c : RunContents) (is : IsSceneOf c scene) (k l
   abbrev whole : List Happening
   whole = race.before ++ x ∷ y ∷ race.after
 
-  apart : (race.one.0 == race.other.0) ≡ false
-  apart = ne_eqb race.one.0 race.other.0 race.apart
-
   first-next : MakesNext s (history_in race.before) race.one race.first
-  first-next = comes s race.before race.one race.first race.seen race.answer (may-follow c race.before x (y ∷ race.after) race.text race.order)
-
-  abbrev item : Item
-  item = record { actor = race.one; happened = Stepped race.first race.seen; answer = race.answer }
-
-  after-first : history_in (race.before ++ x ∷ []) ≡ item ∷ history_in race.before
-  after-first = history_did race.before _ _
+  first-next = one-next c k l race
 
   second-next : MakesNext s (history_in race.before) race.other race.second
-  second-next =
-      let order = subst (λ (hs : List Happening). IsOrderOf c hs race.text) (sym (append_assoc race.before (x ∷ []) (y ∷ race.after))) race.order in
-      let next = comes s (race.before ++ x ∷ []) race.other race.second race.seen_next race.answer_next (may-follow c (race.before ++ x ∷ []) y race.after race.text order) in
-      before-it s (history_in race.before) item race.other race.second apart (subst (λ (h : History). MakesNext s h race.other race.second) after-first next)
+  second-next = other-next c k l race
 
   module _ (ks : List Course) (counts : AllCount c race.before ks) (p q : ℕ) (i j : Course) (m n : ℕ) (i2 j2 : Course) (there : slice_get ks p ≡ Some i) (also : slice_get ks q ≡ Some j)
       (leads : CourseLeads (type_names c.head) i m x i2) (moves : CourseLeads (type_names c.head) j n y j2) where

@@ -4,7 +4,7 @@ use Rattle.std.proofs.lemmas.Option.{same_Some, slice_get-map, slice_get_read}
 use Rattle.std.specs.Option.{option_map}
 use Rattle.std.specs.Prelude.{Err, IfOk, IfSome, IsSome, IsTrue, Ok, Result, slice_get}
 use Rattle.gt_explore_replay.proofs.Coming.{apart_at, less_or, mapped_back}
-use Rattle.gt_explore_replay.specs.Orders.{Happening, IsOrderOf, doer}
+use Rattle.gt_explore_replay.specs.Orders.{Happening, IsOrderOf, did, doer, passed, raised}
 use Rattle.gt_explore_replay.specs.Walking.{ComesOn, HasWalked, HaveOwnIds, IsShownBy}
 use Rattle.gt_explore_replay.specs.declared.replay.Moved.{Moved}
 use Rattle.gt_explore_replay.specs.declared.replay.Moved.TheVariants.{Began, Passed, Raised, Stepped}
@@ -18,9 +18,14 @@ use Rattle.gt_script.specs.RunScripts.{list_of}
 use Rattle.gt_types.specs.declared.DomId.{DomId}
 use Rattle.gt_types.specs.declared.config.DomainConfig.{DomainConfig}
 use Rattle.gt_explore_races.proofs.Beginning.{begins-for, begun-one, begun-same, not-begun}
+use Rattle.gt_explore_races.proofs.Orders.{one-next, other-next}
 use Rattle.gt_explore_races.specs.Accesses.{Conflict}
+use Rattle.gt_explore_races.specs.Paths.{LeadsToRace, event_kind, event_kinds_in}
 use Rattle.gt_explore_races.specs.Races.{IsRaceOf, begins_task, last_line, step_by, tasks_begun}
 use Rattle.gt_explore_races.specs.Replays.{BeginsOrder, ConflictNext, HasApproached, HasBegun, HasMade}
+use Rattle.gt_explore_races.specs.declared.events.EventKind.{EventKind}
+use Rattle.gt_explore_races.specs.declared.events.EventKind.TheVariants as event_kinds
+use Rattle.gt_explore_races.specs.declared.racing.Race.{Race}
 use Rattle.gt_explore_races.specs.declared.replaying.Approach.{Approach}
 
 -- a move was made
@@ -79,6 +84,18 @@ module _ (c : RunContents) (hs : List Happening) (place mover : ℕ) (moved : Mo
       let own : d.id ≡ dom = own-domain same d there ∙ ap doer x in
       one-more d there (ap (begins_task d.id) x ∙ begins-for d.id dom own)
 
+-- events
+
+events-append : (xs ys : List Happening) → event_kinds_in (xs ++ ys) ≡ event_kinds_in xs ++ event_kinds_in ys
+events-append [] ys = refl
+events-append (did e x ∷ xs) ys = ap (λ (l : List EventKind). event_kind e ∷ l) (events-append xs ys)
+events-append (raised d flag ∷ xs) ys = events-append xs ys
+events-append (passed d flag ∷ xs) ys = events-append xs ys
+
+-- a happening more
+pub events-more : (hs : List Happening) (x : Happening) (es fs : List EventKind) → es ≡ event_kinds_in hs → fs ≡ es ++ event_kinds_in (x ∷ []) → fs ≡ event_kinds_in (hs ++ x ∷ [])
+events-more hs x es fs before more = more ∙ ap (λ (l : List EventKind). l ++ event_kinds_in (x ∷ [])) before ∙ sym (events-append hs (x ∷ []))
+
 -- steps
 
 pub has-made : (c : RunContents) (hs : List Happening) (place : ℕ) (step : Step) (seen : Observation) (answer : Option Answer) (r : Replay) → ComesOn c hs place (Stepped step seen answer) r → HasMade c hs place step r
@@ -120,6 +137,23 @@ race-of c one other a k l apart at next first second =
       conflict = next.conflict;
       first_line = ap (last_line (list_of c.tasks next.domain.id)) (sym (at.first next.domain next.there)) ∙ first next.domain next.there;
       second_line = ap (last_line (list_of c.tasks next.domain_next.id)) (sym (at.second next.domain_next next.there_next)) ∙ second next.domain_next next.there_next;
+    }
+
+-- the path to the race
+pub leads-to : (c : RunContents) (r : Race) (one other : ℕ) (a : Approach) → one ≢ other → (at : HasApproached c one other a) → (next : ConflictNext c at.happened one other)
+    → ((d : DomainConfig) → slice_get c.head.domains one ≡ Some d → last_line (list_of c.tasks d.id) a.first_begun ≡ Some r.first)
+    → ((d : DomainConfig) → slice_get c.head.domains other ≡ Some d → last_line (list_of c.tasks d.id) a.second_begun ≡ Some r.second)
+    → (es : List EventKind) → es ≡ (a.events.items ++ event_kinds.Tick next.domain.id ∷ []) ++ event_kinds.Tick next.domain_next.id ∷ [] → LeadsToRace c r es
+unfolding race-of
+leads-to c r one other a apart at next first second es is =
+    let race : IsRaceOf c r.first r.second = race-of c one other a r.first r.second apart at next first second in
+    let x = event_kinds.Tick next.domain.id in
+    let y = event_kinds.Tick next.domain_next.id in
+    record {
+      race = race;
+      made = is ∙ append_assoc a.events.items (x ∷ []) (y ∷ []) ∙ ap (λ (l : List EventKind). l ++ x ∷ y ∷ []) at.events;
+      first_next = one-next c r.first r.second race;
+      second_next = other-next c r.first r.second race;
     }
 
 -- two conflicting steps, one directly after the other

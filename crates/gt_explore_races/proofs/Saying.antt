@@ -5,7 +5,7 @@ use Rattle.std.proofs.lemmas.Bool.{false≢true, leb-false, leb-true}
 use Rattle.std.proofs.lemmas.List.{append_cancel_left, get_or_append_left, length-append, take_all, take_more}
 use Rattle.std.proofs.lemmas.List.Elements.{All-nil, All-push}
 use Rattle.std.proofs.lemmas.List.Sorted.{All-permutation, Contains-permutation}
-use Rattle.std.specs.List.Sorted.{IsPermutation}
+use Rattle.std.specs.List.Sorted.{IsPermutation, IsStrictlySortedBy}
 use Rattle.std.proofs.lemmas.Nat.{from_be_bytes-to_be_bytes_8}
 use Rattle.std.proofs.lemmas.Option.{none-some, same_Some, slice_get_within, get_or_from_slice_get}
 use Rattle.std.proofs.Math.Seq.{get_or-append_seam, take-append_seam}
@@ -157,8 +157,9 @@ less-or-same : (m n : ℕ) → m < n → m ≤ n
 less-or-same m n less = omega arith
 
 pub none-found : (c : RunContents) → AreRacesOf c false []
+unfolding IsStrictlySortedBy
 none-found c = record {
-  ascending = λ k d low lt. absurd (omega arith);
+  ascending = tt;
   each = All-nil (Races c);
   all = λ whole. absurd (false≢true whole);
 }

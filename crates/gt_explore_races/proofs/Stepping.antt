@@ -27,7 +27,8 @@ use Rattle.gt_script.specs.Contents.{type_names}
 use Rattle.gt_script.specs.Lists.{RunTask}
 use Rattle.gt_script_runs.specs.Playing.{setting_of_script}
 use Rattle.gt_explore_races.specs.Accesses.{Conflict}
-use Rattle.gt_explore_races.specs.Spaces.{IsCallingLine, IsToAccess, MakesNext}
+use Rattle.gt_explore_races.specs.Races.{MakesNext}
+use Rattle.gt_explore_races.specs.Spaces.{IsCallingLine, IsToAccess}
 use Rattle.gt_explore_races.specs.Texts.{race_of}
 use Rattle.gt_explore_races.specs.declared.racing.Race.{Race}
 use Rattle.gt_explore_races.specs.declared.space.NextStep.{NextStep}

@@ -1,5 +1,6 @@
 pub mod Accesses
 pub mod Listing
+pub mod Paths
 pub mod Races
 pub mod Replays
 pub mod Spaces

@@ -1,9 +1,12 @@
 -- Races: accesses of two domains to a common byte, one directly after the other in an order of a script's run.
 use Rattle.std.specs.Prelude.{◌≡◌, ◌≢◌, ◌≤◌, ◌⊎◌, ◌++◌, ◌==◌, ℕ, zero, suc, Bool, false, List, ◌∷◌, Option, None, Some}
 use Rattle.std.specs.Prelude.{All, Contains, IsTrue, slice_get, count_by}
-use Rattle.std.specs.List.Sorted.{IsSorted}
+use Rattle.std.specs.List.Sorted.{IsStrictlySortedBy}
 use Rattle.std.specs.Option.{option_map}
 use Rattle.gt_explore_replay.specs.Orders.{Happening, IsOrderOf, did, passed, raised}
+use Rattle.gt_model.specs.History.{History, Setting, Underway, known_at, open_call, values}
+use Rattle.gt_model.specs.Path.{path}
+use Rattle.gt_model.specs.declared.action.Action.TheVariants as actions
 use Rattle.gt_model.specs.declared.action.Observation.{Observation}
 use Rattle.gt_model.specs.declared.action.Step.{Step}
 use Rattle.gt_model.specs.declared.trace.Answer.{Answer}
@@ -43,6 +46,12 @@ abbrev pub step_by : DomId → Step → Observation → Option Answer → Happen
 step_by d y seen answer =
     did (Tick d) (elements.Item (record { actor = d; happened = Stepped y seen; answer = answer }))
 
+-- the open call of a domain makes this step next
+pub record MakesNext (s : Setting) (h : History) (d : DomId) (y : Step) : Type 0 where
+  pub call : Underway
+  pub opened : open_call h d.0 ≡ Some call
+  pub follows : path (known_at s h d) d call.request (values call) ≡ Some (actions.Step y)
+
 -- In an order of the script's run two domains access a common byte, one directly after the other, and at least one of
 -- them writes it. The first access is of the call of line k, the second of that of line l.
 pub record IsRaceOf (c : RunContents) (k l : ℕ) : Type 0 where
@@ -80,8 +89,8 @@ EachRaces c races = All (Races c) races
 abbrev pub HasEachRace : RunContents → List Race → Type 0
 HasEachRace c races = (k l : ℕ) → AreRacing c k l → Contains races (race_of k l)
 
--- the races that a search found: all of them, if it was whole
+-- the races that a search found, each once: all of them, if it was whole
 pub record AreRacesOf (c : RunContents) (whole : Bool) (races : List Race) : Type 0 where
-  pub ascending : IsSorted race_cmp races
+  pub ascending : IsStrictlySortedBy race_cmp races
   pub each : EachRaces c races
   pub all : IsTrue whole → HasEachRace c races

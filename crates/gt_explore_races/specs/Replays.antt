@@ -9,6 +9,7 @@ use Rattle.gt_model.specs.declared.trace.Answer.{Answer}
 use Rattle.gt_script.specs.RunContents.{RunContents}
 use Rattle.gt_types.specs.declared.config.DomainConfig.{DomainConfig}
 use Rattle.gt_explore_races.specs.Accesses.{Conflict}
+use Rattle.gt_explore_races.specs.Paths.{event_kinds_in}
 use Rattle.gt_explore_races.specs.Races.{step_by, tasks_begun}
 use Rattle.gt_explore_races.specs.declared.replaying.Approach.{Approach}
 
@@ -20,10 +21,11 @@ BeginsOrder c hs = (after : List Happening) × (text : List ℕ) × IsOrderOf c 
 abbrev pub HasBegun : RunContents → List Happening → ℕ → ℕ → Type 0
 HasBegun c hs place n = (d : DomainConfig) → slice_get c.head.domains place ≡ Some d → n ≡ tasks_begun d.id hs
 
--- the run has come to a point at which the domains at two positions have begun these numbers of tasks
+-- the run has come by these events to a point at which the domains at two positions have begun these numbers of tasks
 pub record HasApproached (c : RunContents) (one other : ℕ) (a : Approach) : Type 0 where
   pub happened : List Happening
   pub walked : HasWalked c happened a.run
+  pub events : a.events.items ≡ event_kinds_in happened
   pub first : HasBegun c happened one a.first_begun
   pub second : HasBegun c happened other a.second_begun
 

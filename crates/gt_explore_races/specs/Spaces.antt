@@ -11,20 +11,11 @@ use Rattle.gt_explore_search.specs.Ways.{Ways, only_at}
 use Rattle.gt_explore_search.specs.declared.spaces.Turn.{Turn}
 use Rattle.gt_explore_search.specs.declared.spaces.TurnResult.{TurnResult}
 use Rattle.gt_explore_search.specs.declared.spaces.TurnResult.TheVariants.{Answered, Nowhere, On}
-use Rattle.gt_model.specs.History.{History, Setting, Underway, known_at, open_call, values}
-use Rattle.gt_model.specs.Path.{path}
-use Rattle.gt_model.specs.declared.action.Action.TheVariants as actions
 use Rattle.gt_model.specs.declared.action.Step.{Step}
 use Rattle.gt_script_runs.specs.Playing.{setting_of_script}
-use Rattle.gt_types.specs.declared.DomId.{DomId}
 use Rattle.gt_explore_races.specs.Accesses.{Conflict}
+use Rattle.gt_explore_races.specs.Races.{MakesNext}
 use Rattle.gt_explore_races.specs.Texts.{race_of, race_text}
-
--- the open call of a domain makes this step next
-pub record MakesNext (s : Setting) (h : History) (d : DomId) (y : Step) : Type 0 where
-  pub call : Underway
-  pub opened : open_call h d.0 ≡ Some call
-  pub follows : path (known_at s h d) d call.request (values call) ≡ Some (actions.Step y)
 
 -- the call of this line is open
 abbrev pub IsCallingLine : Opened → ℕ → Type 0

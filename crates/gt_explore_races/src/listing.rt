@@ -1,6 +1,6 @@
 //! Lists of races.
 ghost use Rattle.std.specs.Prelude.{IfOk};
-ghost use Rattle.std.specs.List.Sorted.{IsSorted};
+ghost use Rattle.std.specs.List.Sorted.{IsStrictlySortedBy};
 ghost use Rattle.gt_script.specs.Contents.{contents_of};
 ghost use Rattle.gt_script.specs.RunContents.{run_contents};
 ghost use Rattle.gt_script.specs.RunScripts.{CanConfigure};
@@ -55,7 +55,7 @@ fn races_of_texts(
     Ok(races)
 }
 
-/// Returns the races whose texts were found, in ascending order.
+/// Returns the races whose texts were found, each once, in ascending order.
 ///
 /// # Errors
 /// `Astray` if the core does not follow the turns of a text to its race, and `Memory`.
@@ -65,11 +65,12 @@ pub fn races_found(
     found: &[FoundText],
 ) -> Result<Vec<Race>, TextsFault>
     requires { CanConfigure (contents_of script.now.head) }
-    ensures ascending { IfOk result (λ races. IsSorted race_cmp races.items) }
+    ensures ascending { IfOk result (λ races. IsStrictlySortedBy race_cmp races.items) }
     ensures each { IfOk result (λ races. EachRaces (run_contents script.now) races.items) }
     ensures said { IfOk result (λ races. HasRacesOfTexts found.now races.items) }
 {
     let mut races = races_of_texts(alloc, script, found)?;
     races.sort()?;
+    races.dedup();
     Ok(races)
 }

@@ -12,6 +12,7 @@ ghost use Rattle.gt_explore_races.specs.Replays.{ConflictNext, HasApproached, Ha
 
 use crate::accesses::conflict;
 use crate::ending::ends;
+use crate::events::{EventKind, push_event};
 use crate::racing::{Race, race_of};
 use gt_calls::Step;
 use gt_explore_faults::TextsFault;
@@ -21,12 +22,13 @@ use gt_script::RunScript;
 use gt_types::Memory;
 use std::alloc::{AllocError, Global};
 
-/// A run shortly before a race, and the numbers of tasks that the two domains of the race have begun.
+/// A run shortly before a race, the numbers of tasks that the two domains of the race have begun, and its events.
 #[derive(Drop)]
 pub struct Approach<'s, 'a> {
     pub run: Replay<'s, 'a>,
     pub first_begun: usize,
     pub second_begun: usize,
+    pub events: Vec<EventKind>,
 }
 
 // Returns the number of tasks that the domain at `place` has begun, after a move of the domain at `mover`. Returns None
@@ -44,9 +46,39 @@ fn begun_after(begun: usize, place: usize, mover: usize, moved: &Moved) -> Optio
     }
 }
 
-// Makes these turns of a script, and counts the tasks that the domains at these two positions begin. Returns None if a
-// domain could not take its turn.
-fn after_turns<'s, 'a>(
+// Makes one more turn of a script, and counts the tasks that the domains at these two positions begin. Returns false if
+// the domain could not take its turn.
+fn follow(
+    script: &RunScript<'_>,
+    near: &mut Approach<'_, '_>,
+    turn: Turn,
+    first: usize,
+    second: usize,
+) -> Result<bool, Memory>
+    ensures { HasApproached (run_contents script.now) first second near.old →
+        IfOk result (λ b. IsTrue b → HasApproached (run_contents script.now) first second near.new) }
+{
+    let Some(domain) = script.head().domains().get(turn.place) else {
+        return Ok(false);
+    };
+    let Some(moved) = near.run.advance(turn)? else {
+        return Ok(false);
+    };
+    let Some(first_begun) = begun_after(near.first_begun, first, turn.place, &moved) else {
+        return Ok(false);
+    };
+    let Some(second_begun) = begun_after(near.second_begun, second, turn.place, &moved) else {
+        return Ok(false);
+    };
+    near.first_begun = first_begun;
+    near.second_begun = second_begun;
+    push_event(&mut near.events, domain.id, &moved)?;
+    Ok(true)
+}
+
+/// Makes these turns of a script, and counts the tasks that the domains at these two positions begin. Returns None if a
+/// domain could not take its turn.
+pub fn after_turns<'s, 'a>(
     alloc: Global,
     script: &'s RunScript<'a>,
     turns: &[Turn],
@@ -56,27 +88,18 @@ fn after_turns<'s, 'a>(
     requires { CanConfigure (contents_of script.now.head) }
     ensures { IfOk result (λ o. IfSome o (HasApproached (run_contents script.entry.now) first second)) }
 {
-    let mut run = Replay::new(alloc, script)?;
-    let mut first_begun = 0;
-    let mut second_begun = 0;
+    let mut near = Approach {
+        run: Replay::new(alloc, script)?,
+        first_begun: 0,
+        second_begun: 0,
+        events: Vec::new(alloc),
+    };
     'turns: for turn in turns {
-        let Some(moved) = run.advance(*turn)? else {
+        if !follow(script, &mut near, *turn, first, second)? {
             return Ok(None);
-        };
-        let Some(begun) = begun_after(first_begun, first, turn.place, &moved) else {
-            return Ok(None);
-        };
-        first_begun = begun;
-        let Some(begun) = begun_after(second_begun, second, turn.place, &moved) else {
-            return Ok(None);
-        };
-        second_begun = begun;
+        }
     }
-    Ok(Some(Approach {
-        run,
-        first_begun,
-        second_begun,
-    }))
+    Ok(Some(near))
 }
 
 // Makes the next step of the domain at this position. Returns None if its next move is not a step of a call.
@@ -90,8 +113,8 @@ fn made_step(run: &mut Replay<'_, '_>, place: usize) -> Result<Option<Step>, Mem
     }
 }
 
-// Returns the line of the last of this number of tasks of the domain at this position.
-fn line_of(
+/// Returns the line of the last of this number of tasks of the domain at this position.
+pub fn line_of(
     alloc: Global,
     script: &RunScript<'_>,
     place: usize,
@@ -111,9 +134,9 @@ fn line_of(
     Ok(Some(list[begun - 1].line))
 }
 
-// Makes the next steps of the domains at two positions, one directly after the other, and lets the run go on to its
-// end. Returns whether these steps conflict and the run reached its end.
-fn races(mut run: Replay<'_, '_>, first: usize, second: usize) -> Result<bool, Memory>
+/// Makes the next steps of the domains at two positions, one directly after the other, and lets the run go on to its
+/// end. Returns whether these steps conflict and the run reached its end.
+pub fn races(mut run: Replay<'_, '_>, first: usize, second: usize) -> Result<bool, Memory>
     ensures { (c : RunContents) (hs : List Happening) → HasWalked c hs run.entry →
         IfOk result (λ b. IsTrue b → ConflictNext c hs first second) }
 {
@@ -145,6 +168,7 @@ fn race_near(
         run,
         first_begun,
         second_begun,
+        events: _events,
     } = near;
     let Some(line) = line_of(alloc, script, first, first_begun)? else {
         return Ok(None);

@@ -16,15 +16,17 @@ use crate::space::RaceSpace;
 use gt_explore_faults::TextsFault;
 use gt_explore_moves::SearchContext;
 use gt_explore_replay::every_order_has_turns;
-use gt_explore_search::{PartialResult, SearchFault, SearchWatch, search_within};
+use gt_explore_search::{FoundText, PartialResult, SearchFault, SearchWatch, search_within};
 use gt_script::{RunScript, RunTask};
 use std::alloc::Global;
 
-/// The result of a search for races. If `whole` is true, the search met all states, and these are all races. `states`
-/// is the number of states met, at most the limit.
+/// The result of a search for races, which are in ascending order. If `whole` is true, the search met all states, and
+/// these are all races. `states` is the number of states met, at most the limit. `orders` has turns that lead to the
+/// races, for [`path_to_race`](crate::path_to_race).
 #[derive(Drop)]
 pub struct RaceSearch {
     pub races: Vec<Race>,
+    pub orders: Vec<FoundText>,
     pub whole: bool,
     pub states: usize,
 }
@@ -64,22 +66,27 @@ fn races_of(
     alloc: Global,
     script: &RunScript<'_>,
     space: &RaceSpace<'_>,
-    partial: &PartialResult,
+    partial: PartialResult,
     limit: usize,
 ) -> Result<RaceSearch, TextsFault>
     requires { CanConfigure (contents_of script.now.head) }
     ensures races { IsSceneOf (run_contents script.now) space.now.scene →
-        (IsTrue partial.now.whole → AllTextsFound (race_ways space.now.scene) partial.now.found) →
+        (IsTrue partial.whole → AllTextsFound (race_ways space.now.scene) partial.found) →
         IfOk result (λ search. AreRacesOf (run_contents script.now) search.whole search.races.items) }
     ensures few { IfOk result (λ search. search.states ≤ limit) }
 {
     every_order_has_turns();
     lines_are_small(script.tasks());
-    let races = races_found(alloc, script, partial.found.orders.as_slice())?;
+    let whole = partial.whole;
+    let found = partial.found;
+    let races = races_found(alloc, script, found.orders.as_slice())?;
+    let states = found.states.min(limit);
+    let orders = found.orders;
     Ok(RaceSearch {
         races,
-        whole: partial.whole,
-        states: partial.found.states.min(limit),
+        orders,
+        whole,
+        states,
     })
 }
 
@@ -105,9 +112,10 @@ pub fn search_races<'s, 'a, W: SearchWatch>(
     let space = RaceSpace { scene };
     let mut watching = CountingWatch { watch, states: 0 };
     match search_within(alloc, &space, limit, &mut watching) {
-        Ok(partial) => races_of(alloc, script, &space, &partial, limit),
+        Ok(partial) => races_of(alloc, script, &space, partial, limit),
         Err(SearchFault::Memory) => Ok(RaceSearch {
             races: Vec::new(alloc),
+            orders: Vec::new(alloc),
             whole: false,
             states: watching.states.min(limit),
         }),

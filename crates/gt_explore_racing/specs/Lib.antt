@@ -1,2 +1,4 @@
+pub mod Calls
 pub mod Exploring
 pub mod Outputs
+pub mod Showing

@@ -1,21 +1,31 @@
 //! The lines of an answer.
 ghost use Rattle.std.specs.Prelude.{◌≡◌, ◌++◌, IfOk, OnOk};
 ghost use Rattle.gt_explore_racing.specs.Outputs.{no_race_line, race_line, race_lines, race_verdict, races_text};
-ghost use Rattle.gt_explore_racing.specs.Outputs.{met_end, met_line};
+ghost use Rattle.gt_explore_racing.specs.Outputs.{has_its_race, met_end, met_line, of_races, race_comment};
+ghost use Rattle.gt_explore_racing.specs.Outputs.{race_name, race_number};
 
+use crate::asking::RaceRequest;
 use gt_explore_races::Race;
 use gt_explore_verdict::Verdict;
 use gt_text::{push_number, push_text};
 use std::alloc::{AllocError, Global};
 
-// Appends the line of a race.
-fn push_race(out: &mut Vec<u8>, race: Race) -> Result<(), AllocError>
-    ensures { OnOk result (out.new.items ≡ out.old.items ++ race_line race) }
+// Appends the lines of a race.
+fn push_race_name(out: &mut Vec<u8>, race: Race) -> Result<(), AllocError>
+    ensures { OnOk result (out.new.items ≡ out.old.items ++ race_name race) }
 {
     push_text(out, "race ")?;
     push_number(out, race.first)?;
     push_text(out, " ")?;
     push_number(out, race.second)?;
+    Ok(())
+}
+
+// Appends the same as a line.
+fn push_race(out: &mut Vec<u8>, race: Race) -> Result<(), AllocError>
+    ensures { OnOk result (out.new.items ≡ out.old.items ++ race_line race) }
+{
+    push_race_name(out, race)?;
     push_text(out, "\n")?;
     Ok(())
 }
@@ -76,6 +86,60 @@ pub fn races_text(
     push_races(&mut text, races)?;
     push_states(&mut text, whole, states)?;
     Ok(text)
+}
+
+// Returns the words between the number of a race and that of all races that were found.
+fn of_races(whole: bool) -> &'static str
+    ensures { result.now ≡ of_races whole }
+{
+    if whole { " of " } else { " of at least " }
+}
+
+// Appends the number of a race, and that of all races that were found.
+fn push_race_number(
+    out: &mut Vec<u8>,
+    number: usize,
+    count: usize,
+    whole: bool,
+) -> Result<(), AllocError>
+    ensures { OnOk result (out.new.items ≡ out.old.items ++ race_number number count whole) }
+{
+    push_text(out, ": ")?;
+    push_number(out, number)?;
+    push_text(out, of_races(whole))?;
+    push_number(out, count)?;
+    push_text(out, "\n# ")?;
+    Ok(())
+}
+
+/// Returns the comment over a script that shows the race of this number, one of `count` races.
+pub fn race_comment(
+    alloc: Global,
+    race: Race,
+    number: usize,
+    count: usize,
+    whole: bool,
+    states: usize,
+) -> Result<Vec<u8>, AllocError>
+    ensures { IfOk result (λ text. text.items ≡ race_comment race number count whole states) }
+{
+    let mut text = Vec::new(alloc);
+    push_text(&mut text, "# ")?;
+    push_race_name(&mut text, race)?;
+    push_race_number(&mut text, number, count, whole)?;
+    push_states(&mut text, whole, states)?;
+    Ok(text)
+}
+
+/// Returns whether one of this number of races has the number that a request names. A request that names none has what
+/// it needs.
+pub fn has_its_race(request: RaceRequest, count: usize) -> bool
+    ensures { result ≡ has_its_race request count }
+{
+    match request {
+        RaceRequest::Lines => true,
+        RaceRequest::Witness(number) => 0 < number && number <= count,
+    }
 }
 
 /// Returns the verdict on the claim that nothing races, if these races were found.

@@ -20,7 +20,7 @@ use Rattle.gt_core.specs.declared.core_state.Ticked.TheVariants as ticked
 use Rattle.gt_model.specs.declared.trace.Answer.{Answer}
 use Rattle.gt_model.specs.declared.trace.Event.TheVariants.{Begin, Tick}
 use Rattle.gt_script_lines.specs.declared.calls.ScriptCall.{ScriptCall}
-use Rattle.gt_script.specs.declared.tasks.RunActionBy.TheVariants.{Do}
+use Rattle.gt_script.specs.declared.tasks.RunAction.TheVariants.{Do}
 use Rattle.gt_script.specs.Lists.{RunTask}
 use Rattle.gt_script_runs.specs.Naming.{AreNamed}
 use Rattle.gt_script_runs.specs.Runs.{Named, MakesRequest, answer_in}

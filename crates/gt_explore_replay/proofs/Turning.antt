@@ -12,7 +12,7 @@ use Rattle.gt_model.specs.declared.trace.Element.{Element}
 use Rattle.gt_model.specs.declared.trace.Event.TheVariants.{Begin, Tick}
 use Rattle.gt_script_lines.specs.declared.calls.ScriptCall.{ScriptCall}
 use Rattle.gt_script.specs.Lists.{RunAction, RunTask}
-use Rattle.gt_script.specs.declared.tasks.RunActionBy.TheVariants.{Do, Tell, Await}
+use Rattle.gt_script.specs.declared.tasks.RunAction.TheVariants.{Do, Tell, Await}
 use Rattle.gt_script.specs.Contents.{type_names}
 use Rattle.gt_script.specs.RunContents.{RunContents}
 use Rattle.gt_script.specs.RunScripts.{list_of}

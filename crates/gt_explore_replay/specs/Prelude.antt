@@ -34,7 +34,7 @@ pub use Rattle.gt_script.specs.RunContents.{RunContents}
 pub use Rattle.gt_script.specs.RunScripts.{list_of}
 pub use Rattle.gt_script.specs.Lists.{RunAction, RunTask}
 pub use Rattle.gt_script.specs.Stuck.{AreNumbered, IsBelow}
-pub use Rattle.gt_script.specs.declared.tasks.RunActionBy.TheVariants.{Await, Do, Tell}
+pub use Rattle.gt_script.specs.declared.tasks.RunAction.TheVariants.{Await, Do, Tell}
 pub use Rattle.gt_types.specs.Names.{domain_of}
 pub use Rattle.gt_types.specs.declared.DomId.{DomId}
 pub use Rattle.gt_types.specs.declared.config.DomainConfig.{DomainConfig}

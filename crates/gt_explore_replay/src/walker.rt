@@ -182,7 +182,7 @@ impl<'s, 'a> Walker<'s, 'a> {
     ghost use Rattle.std.specs.Prelude.{◌≡◌, ◌≢◌, ◌<◌, ◌≤◌, ℕ, List, length, slice_get, IsTrue, IfOk, IfSome, Some};
     ghost use Rattle.gt_core.specs.Standing.{setting_in};
     ghost use Rattle.gt_script_runs.specs.Rights.{may_by};
-    ghost use Rattle.gt_script.specs.declared.tasks.RunActionBy.TheVariants as run_actions;
+    ghost use Rattle.gt_script.specs.declared.tasks.RunAction.TheVariants as run_actions;
     ghost use Rattle.gt_explore_replay.specs.Making.{BeginsLine, GivesBackAt, TicksOpen};
     ghost use Rattle.gt_explore_replay.specs.Walking.{AnswersLine, ClosesCall, WalksTo, tasks_left_of};
     ghost use Rattle.gt_explore_replay.specs.declared.walker.OpenTask.TheVariants as open_tasks;

@@ -5,5 +5,6 @@ pub mod Keeping
 pub mod Listing
 pub mod Numbering
 pub mod Packing
+pub mod Tailing
 pub mod Trying
 pub mod Partial

@@ -4,11 +4,11 @@ use Rattle.std.proofs.Common.{sym, ◌∙◌, refl, subst, arith, inl, inr, appe
 use Rattle.std.proofs.Common.{Option, None, Some, slice_get, ◌&&◌, if◌then◌else◌}
 use borrow.Author.Tests.{eqb-true}
 use Rattle.std.proofs.Common.{◌+◌, nat_eq}
-use Rattle.std.proofs.lemmas.List.{append-nil, flat_map_more, get_or_append_left, take_more}
+use Rattle.std.proofs.lemmas.List.{append-nil, get_or_append_left}
 use Rattle.std.proofs.lemmas.Option.{get_or_from_slice_get, none-some, same_Some, slice_get_within}
 use Rattle.std.specs.Global.{Vec}
 use Rattle.std.specs.List.{flat_map, range_with_len}
-use Rattle.std.proofs.Common.{get_or, take}
+use Rattle.std.proofs.Common.{get_or}
 use lib.Pointwise.{pointwise}
 use Rattle.gt_explore_search.specs.Lists.{items_at, printed_of, rest_by, line_by, HasLine, HasListAt}
 use Rattle.gt_explore_search.specs.Lists.{AreWhole, HasItsLine, GrowsInto, IsLonger}
@@ -214,15 +214,6 @@ tail_stored tails n t is = get_or_from_slice_get tails n t [] is
 -- what the domain at this position prints by a list of tails
 abbrev pub said_by : AnswerLists → List ℕ → ℕ → List ℕ
 said_by s list at = printed_of s.lines.keys (get_or s.tails (get_or list at 0) [])
-
--- one line more
-pub printed_more : (lines : List (Vec ℕ)) (tail : List ℕ) (i : ℕ) (old out part : List ℕ) → i < length tail → part ≡ items_at lines (get_or tail i 0)
-    → out ≡ old ++ printed_of lines (take i tail) → out ++ part ≡ old ++ printed_of lines (take (i + 1) tail)
-printed_more lines tail i old out part lt part_is out_is =
-    ap (λ (o : List ℕ). o ++ part) out_is
-    ∙ ap (λ (p : List ℕ). (old ++ printed_of lines (take i tail)) ++ p) part_is
-    ∙ flat_map_more (items_at lines) old (take i tail) (get_or tail i 0)
-    ∙ ap (λ (l : List ℕ). old ++ printed_of lines l) (sym (take_more tail i 0 lt))
 
 -- one domain more
 pub domains_more : (f : ℕ → List ℕ) (a n : ℕ) → flat_map f (range_with_len a (n + 1)) ≡ flat_map f (range_with_len a n) ++ f (a + n)

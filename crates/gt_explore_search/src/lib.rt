@@ -21,6 +21,7 @@ mod sharing;
 mod spaces;
 mod states;
 mod suffixes;
+mod tails;
 mod watching;
 
 pub use exploring::{FoundText, PartialResult, SearchResult, search, search_within};

@@ -1,9 +1,10 @@
 //! The lists of answers that a state can still lead to.
-ghost use Rattle.std.specs.Prelude.{◌≡◌, ◌==◌, ◌-◌, ◌++◌, ◌∷◌, ℕ, OnOk, length, replicate, slice_index_or};
+ghost use Rattle.std.specs.Prelude.{◌≡◌, ◌==◌, ◌-◌, ◌++◌, ℕ, OnOk, length, replicate, slice_index_or};
 ghost use Rattle.std.specs.Prelude.{if◌then◌else◌};
 
 use crate::fault::SearchFault;
 use crate::numbers::NumberLists;
+use crate::tails::{TailIndex, TailNode};
 use indexmap::IndexSet;
 use std::alloc::{AllocError, Global};
 
@@ -21,7 +22,7 @@ pub struct AnswerLine {
 pub struct AnswerLists {
     alloc: Global,
     lines: IndexSet<Vec<u8>>,
-    tails: NumberLists,
+    tails: TailIndex,
     lists: NumberLists,
     scratch: Vec<u32>,
 }
@@ -31,16 +32,6 @@ fn tail_at(list: &[u32], place: usize) -> u32
     ensures { result ≡ slice_index_or list.now place 0 }
 {
     list.get(place).copied().unwrap_or(0)
-}
-
-// Makes `out` the tail with this line before the later ones.
-fn put_line(out: &mut Vec<u32>, line: u32, later: &[u32]) -> Result<(), AllocError>
-    ensures { OnOk result (out.new.items ≡ line ∷ later.now) }
-{
-    out.clear();
-    out.push(line)?;
-    out.extend_from_slice(later)?;
-    Ok(())
 }
 
 // Makes a list at least this long, by tails without lines.
@@ -96,14 +87,12 @@ impl AnswerLists {
         ensures whole { IfOk result AreWhole }
         ensures empty { IfOk result (λ s. IsEmptyList s 0) }
     {
-        let mut tails = NumberLists::new(alloc);
-        tails.number_of(&[])?;
         let mut lists = NumberLists::new(alloc);
         lists.number_of(&[])?;
         Ok(AnswerLists {
             alloc,
             lines: IndexSet::new(alloc),
-            tails,
+            tails: TailIndex::new(alloc),
             lists,
             scratch: Vec::new(alloc),
         })
@@ -143,12 +132,14 @@ impl AnswerLists {
         let Some(old) = self.lists.get(list as usize) else {
             return Ok(list);
         };
-        let tail = tail_at(old, line.place as usize);
-        let Some(later) = self.tails.get(tail as usize) else {
+        let behind = tail_at(old, line.place as usize);
+        if !self.tails.has(behind) {
             return Ok(list);
-        };
-        put_line(&mut self.scratch, line.number, later)?;
-        let tail = self.tails.number_of(self.scratch.as_slice())?;
+        }
+        let tail = self.tails.number_of(TailNode {
+            line: line.number,
+            behind,
+        })?;
         put_tail(&mut self.scratch, old, line.place, tail)?;
         let number = self.lists.number_of(self.scratch.as_slice())?;
         Ok(number)
@@ -167,19 +158,13 @@ impl AnswerLists {
         let Some(old) = self.lists.get(list as usize) else {
             return Ok(None);
         };
-        let Some(lines) = self.tails.get(tail_at(old, line.place as usize) as usize) else {
+        let Some(first) = self.tails.node(tail_at(old, line.place as usize)) else {
             return Ok(None);
         };
-        let Some((first, later)) = lines.split_first() else {
-            return Ok(None);
-        };
-        if *first != line.number {
+        if first.line != line.number {
             return Ok(None);
         }
-        let Some(tail) = self.tails.find(later) else {
-            return Ok(None);
-        };
-        put_tail(scratch, old, line.place, tail)?;
+        put_tail(scratch, old, line.place, first.behind)?;
         trim(scratch);
         Ok(self.lists.find(scratch.as_slice()))
     }
@@ -199,11 +184,10 @@ impl AnswerLists {
         ensures { OnOk result (out.new.items
             ≡ out.old.items ++ printed_of self.now.lines.keys (slice_index_or self.now.tails tail [])) }
     {
-        let Some(lines) = self.tails.get(tail as usize) else {
-            return Ok(());
-        };
-        'lines: for line in lines {
-            out.extend_from_slice(self.bytes(*line))?;
+        let mut rest = tail;
+        'lines: while let Some(first) = self.tails.node(rest) {
+            out.extend_from_slice(self.bytes(first.line))?;
+            rest = first.behind;
         }
         Ok(())
     }

@@ -8,7 +8,6 @@ use Rattle.std.proofs.lemmas.Bool.{eqb-true, eq-eqb}
 use Rattle.std.proofs.lemmas.Option.{none-some, same_Some, slice_get_within, get_or_from_slice_get}
 use Rattle.gt_types.specs.declared.DomId.{DomId}
 use Rattle.gt_types.specs.declared.config.DomainConfig.{DomainConfig}
-use Rattle.gt_calls.specs.Known.{entry_in, own_generation}
 use Rattle.gt_types.specs.Names.{domain_of}
 use Rattle.gt_types.specs.Config.{IsWithinLimits}
 use Rattle.gt_types.specs.declared.config.Config.{Config}
@@ -18,7 +17,7 @@ use Rattle.gt_model.specs.Written.{zeros, written}
 use Rattle.gt_model.specs.History.{History, Setting, header_from, table_at, entry_at, raises_at, generation_at, live}
 use Rattle.gt_model.specs.History.{body_at, patches_at}
 use Rattle.gt_explore_state.specs.Pages.{kept_bytes, padded}
-use Rattle.gt_explore_state.specs.Rows.{counts_in}
+use Rattle.gt_explore_state.specs.Rows.{counts_in, kept_entry, kept_generation}
 use Rattle.gt_explore_state.specs.Copies.{AreTablesOf, IsTableOf, SamePage, SamePages, SameTables}
 use Rattle.gt_explore_state.specs.Shows.{CountsShow, IsSettingOf, PagesShow, TableShows, TablesShow}
 use Rattle.gt_explore_state.specs.Tables.{SameTable}
@@ -68,8 +67,8 @@ same-at (t ∷ ts) [] k u a e = absurd a
 same-shows : (s : Setting) (h : History) (d : DomId) (t u : SparseTable) → SameTable t u → TableShows s h d t → TableShows s h d u
 same-shows s h d t u same a = record {
   header = same.header ∙ a.header;
-  entries = λ r. ap (λ l. entry_in l r) same.own ∙ a.entries r;
-  generations = λ r. ap (λ l. own_generation s.first_generation l r) same.own ∙ a.generations r;
+  entries = λ r. ap (λ l. kept_entry l r) same.own ∙ a.entries r;
+  generations = λ r. ap (λ l. kept_generation s.first_generation l r) same.own ∙ a.generations r;
   counts = λ r. subst (CountsShow h d.0 r) (ap (λ l. counts_in l r) (sym same.counts)) (a.counts r);
 }
 
@@ -125,7 +124,7 @@ first-header : (s : Setting) (d : DomainConfig) → domain_of s.domains d.id ≡
 unfolding table_at
 first-header s d e = ap header_from e
 
-first-entries : (s : Setting) (t r : ℕ) → s.first_generation ≤ LAST_GENERATION → (entry_in [] r ≡ entry_at [] t r) × (own_generation s.first_generation [] r ≡ generation_at s [] t r)
+first-entries : (s : Setting) (t r : ℕ) → s.first_generation ≤ LAST_GENERATION → (kept_entry [] r ≡ entry_at [] t r) × (kept_generation s.first_generation [] r ≡ generation_at s [] t r)
 unfolding entry_at raises_at
 first-entries s t r few = (refl, (omega arith))
 
@@ -145,8 +144,8 @@ first-shown c s ds ts set limits same tables = record { many = first-many ds ts 
   by k d t at is = record {
     header = is.header ∙ fits-word d (limit (λ (x : DomainConfig). (1 ≤ x.version) × (x.version ≤ LAST_VERSION)) limits.versions).1 (limit (λ (x : DomainConfig). (1 ≤ x.table_frames) × (x.table_frames ≤ MAX_TABLE_FRAMES)) limits.table_frames).1
         ∙ sym (first-header s d (own-config s.domains k d set.apart at));
-    entries = λ r. ap (λ l. entry_in l r) is.own ∙ (first-entries s d.id.0 r few).0;
-    generations = λ r. ap (λ l. own_generation s.first_generation l r) is.own ∙ (first-entries s d.id.0 r few).1;
+    entries = λ r. ap (λ l. kept_entry l r) is.own ∙ (first-entries s d.id.0 r few).0;
+    generations = λ r. ap (λ l. kept_generation s.first_generation l r) is.own ∙ (first-entries s d.id.0 r few).1;
     counts = λ r. subst (CountsShow [] d.id.0 r) (ap (λ l. counts_in l r) (sym is.counts)) (first-counts d.id.0 r);
   } where
     limit : (P : DomainConfig → Type 0) → All P c.domains.items → P d

@@ -13,14 +13,13 @@ use Rattle.gt_model.specs.declared.change.BodyWord.{BodyWord}
 use Rattle.gt_model.specs.declared.change.BodyWord.TheVariants as body_words
 use Rattle.gt_model.specs.Words.{control_word, header_word}
 use Rattle.gt_model.specs.Spelling.{control_with}
-use Rattle.gt_calls.specs.Known.{own_generation}
 use Rattle.gt_model.specs.declared.action.Step.{Step}
 use Rattle.gt_model.specs.declared.action.Step.TheVariants.{LookHeader, LookControl, LookBody, Exchange}
 use Rattle.gt_model.specs.declared.action.Step.TheVariants as call_steps
 use Rattle.gt_model.specs.declared.action.Observation.TheVariants.{Word}
 use Rattle.gt_model.specs.History.{History, Setting, entry_at, generation_at, reads_at, body_at, word_at, seen_by}
 use Rattle.gt_model.specs.History.{exchange_sees}
-use Rattle.gt_explore_state.specs.Rows.{counts_in, word_in}
+use Rattle.gt_explore_state.specs.Rows.{counts_in, word_in, kept_entry, kept_generation}
 use Rattle.gt_explore_state.specs.Shows.{IsSettingOf, IsInRun, LooksInRun, TableShows, TablesShow}
 use Rattle.gt_explore_state.specs.Tables.{place_of_domain, table_in, header_in_table, word_seen, body_in_table}
 use Rattle.gt_explore_state.specs.Tables.{step_sees}
@@ -57,7 +56,7 @@ module _ (s : Setting) (h : History) (c : Config) (ts : List SparseTable) (set :
   word-is d r some = let t = there d some in let z = t.2.counts r in
       ap (λ (o : Option SparseTable). word_seen c.first_gen o r) t.1
       ∙ ap (λ (n : ℕ). word_in n t.0.own.items t.0.counts.items r) set.first
-      ∙ ap (λ (e : Entry). control_word (control_with e (own_generation s.first_generation t.0.own.items r) (counts_in t.0.counts.items r).reads (counts_in t.0.counts.items r).writes)) (t.2.entries r)
+      ∙ ap (λ (e : Entry). control_word (control_with e (kept_generation s.first_generation t.0.own.items r) (counts_in t.0.counts.items r).reads (counts_in t.0.counts.items r).writes)) (t.2.entries r)
       ∙ ap (λ (n : ℕ). control_word (control_with (entry_at h d.0 r) n (counts_in t.0.counts.items r).reads (counts_in t.0.counts.items r).writes)) (t.2.generations r)
       ∙ ap (λ (n : ℕ). control_word (control_with (entry_at h d.0 r) (generation_at s h d.0 r) n (counts_in t.0.counts.items r).writes)) z.reads
       ∙ ap (λ (n : ℕ). control_word (control_with (entry_at h d.0 r) (generation_at s h d.0 r) (reads_at h d.0 r) n)) z.writes

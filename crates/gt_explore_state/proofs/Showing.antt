@@ -17,10 +17,9 @@ use Rattle.gt_model.specs.declared.trace.Item.{Item}
 use Rattle.gt_model.proofs.Observers.{kept-entry, kept-raises, kept-table, unstored, KeepsAll, stepped, pins_at}
 use Rattle.gt_model.proofs.Observers.{pinned-live, unpinned-live, new_pin, grown-count, exchanged-entry}
 use Rattle.gt_model.proofs.Observers.{exchanged-raises, exchanged-live}
-use Rattle.gt_calls.specs.Known.{entry_in, own_generation}
 use Rattle.gt_model.specs.Entries.{changed_entry}
 use Rattle.gt_core.specs.Effects.{slot_after}
-use Rattle.gt_explore_state.specs.Rows.{counts_in}
+use Rattle.gt_explore_state.specs.Rows.{counts_in, kept_entry, kept_generation}
 use Rattle.gt_explore_state.specs.Shows.{CountsShow, IsItemOfStep, IsSettingOf, LosesOne, StepFits, TableShows}
 use Rattle.gt_explore_state.specs.Shows.{TablesShow, unheld}
 use Rattle.gt_explore_state.specs.Tables.{CountsChangeOf, HeaderStored, OneBecomes, OwnChangeOf, TablesAfter}
@@ -96,8 +95,8 @@ module _ (s : Setting) (c-apart : AllPairs (λ d e. d.id.0 ≢ e.id.0) s.domains
         → ((q : ℕ) → counts_in x.counts.items q ≡ cond ((t == d.id.0) && (r == q)) (slot_after change (counts_in y.counts.items q)) (counts_in y.counts.items q)) → TableShows s (i ∷ h) d.id x
     shown d y x a header own counts = record {
       header = header ∙ a.header ∙ sym (kept-table s i h d.id keeps.header);
-      entries = λ q. ap (λ l. entry_in l q) own ∙ a.entries q ∙ sym (kept-entry i h d.id.0 q keeps.changes);
-      generations = λ q. ap (λ l. own_generation s.first_generation l q) own ∙ a.generations q ∙ ap (λ (n : ℕ). s.first_generation + n) (sym (kept-raises i h d.id.0 q keeps.changes));
+      entries = λ q. ap (λ l. kept_entry l q) own ∙ a.entries q ∙ sym (kept-entry i h d.id.0 q keeps.changes);
+      generations = λ q. ap (λ l. kept_generation s.first_generation l q) own ∙ a.generations q ∙ ap (λ (n : ℕ). s.first_generation + n) (sym (kept-raises i h d.id.0 q keeps.changes));
       counts = λ q. subst (CountsShow (i ∷ h) d.id.0 q) (sym (counts q)) (moves d.id.0 q (counts_in y.counts.items q) (a.counts q));
     }
 
@@ -160,16 +159,16 @@ header-shows : (s : Setting) (h : History) (d : DomId) (version frames : ℕ) (s
     → x.own.items ≡ y.own.items → x.counts.items ≡ y.counts.items → TableShows s (stepped d (StoreHeader version frames) seen answer ∷ h) t x
 header-shows s h d version frames seen answer t y x a header own counts = let i = stepped d (StoreHeader version frames) seen answer in record {
   header = header;
-  entries = λ q. ap (λ l. entry_in l q) own ∙ a.entries q ∙ sym (kept-entry i h t.0 q (λ r. refl));
-  generations = λ q. ap (λ l. own_generation s.first_generation l q) own ∙ a.generations q ∙ ap (λ (n : ℕ). s.first_generation + n) (sym (kept-raises i h t.0 q (λ r. refl)));
+  entries = λ q. ap (λ l. kept_entry l q) own ∙ a.entries q ∙ sym (kept-entry i h t.0 q (λ r. refl));
+  generations = λ q. ap (λ l. kept_generation s.first_generation l q) own ∙ a.generations q ∙ ap (λ (n : ℕ). s.first_generation + n) (sym (kept-raises i h t.0 q (λ r. refl)));
   counts = λ q. subst (CountsShow (i ∷ h) t.0 q) (ap (λ l. counts_in l q) (sym counts)) (counts-kept h (i ∷ h) t.0 q (counts_in y.counts.items q) (λ which. unstored i h t.0 q which refl) (header-live h d version frames seen answer) (a.counts q));
 }
 
 -- an entry that its owner changes
 
 change-shows : (s : Setting) (h : History) (d : DomId) (gref : GrantRef) (looked : ℕ) (change : EntryChange) (answer : Option Answer) (t : DomId) (y x : SparseTable) (b : Bool) → (d.0 == t.0) ≡ b → TableShows s h t y → x.header ≡ y.header
-    → ((q : ℕ) → entry_in x.own.items q ≡ changed_entry_of (cond b (cond (gref.0 == q) (Some change) None) None) (entry_in y.own.items q))
-    → ((q : ℕ) → own_generation s.first_generation x.own.items q ≡ own_generation s.first_generation y.own.items q + raise_after (cond b (cond (gref.0 == q) (Some change) None) None))
+    → ((q : ℕ) → kept_entry x.own.items q ≡ changed_entry_of (cond b (cond (gref.0 == q) (Some change) None) None) (kept_entry y.own.items q))
+    → ((q : ℕ) → kept_generation s.first_generation x.own.items q ≡ kept_generation s.first_generation y.own.items q + raise_after (cond b (cond (gref.0 == q) (Some change) None) None))
     → x.counts.items ≡ y.counts.items → TableShows s (stepped d (Exchange gref looked change) Taken answer ∷ h) t x
 change-shows s h d gref looked change answer t y x b is a header entries generations counts = let i = stepped d (Exchange gref looked change) Taken answer in record {
   header = header ∙ a.header ∙ sym (kept-table s i h t refl);
@@ -194,7 +193,7 @@ change-own-shows : (s : Setting) (h : History) (d : DomId) (gref : GrantRef) (lo
 change-own-shows s h d gref looked change answer t y x is few c a = change-shows s h d gref looked change answer t y x true is a c.header
     (λ q. c.own.entries q ∙ entry (gref.0 == q) q) (λ q. c.own.generations q ∙ generation (gref.0 == q) q refl) c.counts
   where
-    entry : (b : Bool) (q : ℕ) → cond b (changed_entry change (entry_in y.own.items q)) (entry_in y.own.items q) ≡ changed_entry_of (cond b (Some change) None) (entry_in y.own.items q)
+    entry : (b : Bool) (q : ℕ) → cond b (changed_entry change (kept_entry y.own.items q)) (kept_entry y.own.items q) ≡ changed_entry_of (cond b (Some change) None) (kept_entry y.own.items q)
     entry true q = refl
     entry false q = refl
 
@@ -202,15 +201,15 @@ change-own-shows s h d gref looked change answer t y x is few c a = change-shows
     raised true = refl
     raised false = refl
 
-    generation : (b : Bool) (q : ℕ) → (gref.0 == q) ≡ b → cond b (min (own_generation s.first_generation y.own.items q + raise_of change) LAST_GENERATION) (own_generation s.first_generation y.own.items q)
-        ≡ own_generation s.first_generation y.own.items q + raise_after (cond b (Some change) None)
-    generation b q e = room-there b (own_generation s.first_generation y.own.items q) (raise_of change)
+    generation : (b : Bool) (q : ℕ) → (gref.0 == q) ≡ b → cond b (min (kept_generation s.first_generation y.own.items q + raise_of change) LAST_GENERATION) (kept_generation s.first_generation y.own.items q)
+        ≡ kept_generation s.first_generation y.own.items q + raise_after (cond b (Some change) None)
+    generation b q e = room-there b (kept_generation s.first_generation y.own.items q) (raise_of change)
         (λ f. subst (λ (n : ℕ). n + raise_of change ≤ LAST_GENERATION) (ap (λ (n : ℕ). generation_at s h n gref.0) (eqb-true d.0 t.0 is) ∙ ap (generation_at s h t.0) (eqb-true gref.0 q (e ∙ f)) ∙ sym (a.generations q)) few)
-        ∙ ap (λ (n : ℕ). own_generation s.first_generation y.own.items q + n) (sym (raised b))
+        ∙ ap (λ (n : ℕ). kept_generation s.first_generation y.own.items q + n) (sym (raised b))
 
 change-other-shows : (s : Setting) (h : History) (d : DomId) (gref : GrantRef) (looked : ℕ) (change : EntryChange) (answer : Option Answer) (t : DomId) (x : SparseTable) → (d.0 == t.0) ≡ false → TableShows s h t x
     → TableShows s (stepped d (Exchange gref looked change) Taken answer ∷ h) t x
-change-other-shows s h d gref looked change answer t x apart a = change-shows s h d gref looked change answer t x x false apart a refl (λ q. refl) (λ q. zero-more (own_generation s.first_generation x.own.items q)) refl
+change-other-shows s h d gref looked change answer t x apart a = change-shows s h d gref looked change answer t x x false apart a refl (λ q. refl) (λ q. zero-more (kept_generation s.first_generation x.own.items q)) refl
   where
     zero-more : (n : ℕ) → n ≡ n + 0
     zero-more n = omega arith

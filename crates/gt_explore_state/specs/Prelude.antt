@@ -1,5 +1,4 @@
 -- Names of other crates that the definitions here use.
-pub use Rattle.gt_calls.specs.Known.{entry_in, own_generation}
 pub use Rattle.gt_model.specs.declared.action.Observation.{Observation}
 pub use Rattle.gt_model.specs.declared.action.Observation.TheVariants.{Taken}
 pub use Rattle.gt_model.specs.declared.action.Step.{Step}

@@ -3,7 +3,7 @@ use Rattle.std.specs.Prelude.{◌≡◌, ◌≢◌, ◌==◌, ◌&&◌, ◌+◌,
 use Rattle.std.specs.Prelude.{slice_get, AllPairs}
 use Rattle.std.specs.Prelude.{count_by, if◌then◌else◌}
 use Rattle.gt_explore_state.specs.Prelude.{domain_of, DomId, Dir, Config, DomainConfig, FRAME_SIZE, LAST_GENERATION}
-use Rattle.gt_explore_state.specs.Prelude.{MAX_PINS, raise_of, entry_in, own_generation, HeldPin, Step, LookHeader}
+use Rattle.gt_explore_state.specs.Prelude.{MAX_PINS, raise_of, HeldPin, Step, LookHeader}
 use Rattle.gt_explore_state.specs.Prelude.{LookControl, LookBody, Unpin, StoreHeader, Exchange, Observation, Taken}
 use Rattle.gt_explore_state.specs.Prelude.{Item, Began, Stepped, CanBeReached, IsRight, Request, History, Setting, Pin}
 use Rattle.gt_explore_state.specs.Prelude.{live, without, is_pin_on, same_dir, entry_at, generation_at, body_at}
@@ -12,7 +12,7 @@ use Rattle.gt_model.specs.declared.change.BodyWord.TheVariants as body_words
 use Rattle.gt_model.specs.declared.action.Step.TheVariants as call_steps
 use Rattle.gt_model.specs.declared.request.PinHolder.TheVariants as holders
 use Rattle.gt_explore_state.specs.Pages.{page_contents}
-use Rattle.gt_explore_state.specs.Rows.{counts_in}
+use Rattle.gt_explore_state.specs.Rows.{counts_in, kept_entry, kept_generation}
 use Rattle.gt_explore_state.specs.declared.pages.SparsePage.{SparsePage}
 use Rattle.gt_explore_state.specs.declared.table.SparseTable.{SparseTable}
 
@@ -32,8 +32,8 @@ pub record CountsShow (h : History) (t r : ℕ) (c : PinCounts) : Type 0 where
 -- the table is that of domain d after these items
 pub record TableShows (s : Setting) (h : History) (d : DomId) (t : SparseTable) : Type 0 where
   pub header : t.header ≡ table_at s h d
-  pub entries : (r : ℕ) → entry_in t.own.items r ≡ entry_at h d.0 r
-  pub generations : (r : ℕ) → own_generation s.first_generation t.own.items r ≡ generation_at s h d.0 r
+  pub entries : (r : ℕ) → kept_entry t.own.items r ≡ entry_at h d.0 r
+  pub generations : (r : ℕ) → kept_generation s.first_generation t.own.items r ≡ generation_at s h d.0 r
   pub counts : (r : ℕ) → CountsShow h d.0 r (counts_in t.counts.items r)
 
 -- the tables are those of the domains of the run after these items, in their order

@@ -1,9 +1,9 @@
 //! The words and bytes of a small state, which keeps only what differs from the start, and equality of the calls and
 //! steps that such states also have.
 //!
-//! A domain has rows up to the last entry that was touched, and a frame has bytes up to the last one that was written.
-//! The functions here read and change them as if all entries had rows, and all frames all their bytes: the contracts of
-//! [`SparseState`] state this against a history of the run.
+//! A domain has rows of the entries that were touched, by their references, and a frame has bytes up to the last one
+//! that was written. The functions here read and change them as if all entries had rows, and all frames all their bytes:
+//! the contracts of [`SparseState`] state this against a history of the run.
 //!
 //! [`same_call`], [`same_step`] and [`same_result`] return true only for equal values: that is proved.
 //!
@@ -29,6 +29,6 @@ pub use laws::{
     every_like_step_fits, every_right_step_fits,
 };
 pub use pages::SparsePage;
-pub use rows::counts_at;
+pub use rows::TableRow;
 pub use same::{same_call, same_result, same_step};
 pub use table::SparseTable;

@@ -6,6 +6,7 @@
 ghost use Rattle.std.specs.Prelude.{◌≡◌, IsTrue};
 
 use crate::pages::SparsePage;
+use crate::rows::TableRow;
 use crate::table::SparseTable;
 use gt_calls::{BodyWord, OwnerEntry};
 use gt_core::PinCounts;
@@ -16,20 +17,20 @@ mod steps;
 pub use calls::{same_call, same_result};
 pub use steps::same_step;
 
-fn same_row(one: OwnerEntry, other: OwnerEntry) -> bool
+fn same_entry(one: OwnerEntry, other: OwnerEntry) -> bool
     ensures { IsTrue result → other ≡ one }
 {
     one.entry() == other.entry() && one.generation() == other.generation()
 }
 
-fn same_own(one: &[OwnerEntry], other: &[OwnerEntry]) -> bool
+fn same_own(one: &[TableRow<OwnerEntry>], other: &[TableRow<OwnerEntry>]) -> bool
     ensures { IsTrue result → other.now ≡ one.now }
 {
     if one.len() != other.len() {
         return false;
     }
     'rows: for at in 0..one.len() {
-        if !same_row(one[at], other[at]) {
+        if one[at].gref != other[at].gref || !same_entry(one[at].value, other[at].value) {
             return false;
         }
     }
@@ -45,14 +46,14 @@ fn same_pins(one: PinCounts, other: PinCounts) -> bool
         && one.body(BodyWord::Second) == other.body(BodyWord::Second)
 }
 
-fn same_counts(one: &[PinCounts], other: &[PinCounts]) -> bool
+fn same_counts(one: &[TableRow<PinCounts>], other: &[TableRow<PinCounts>]) -> bool
     ensures { IsTrue result → other.now ≡ one.now }
 {
     if one.len() != other.len() {
         return false;
     }
     'rows: for at in 0..one.len() {
-        if !same_pins(one[at], other[at]) {
+        if one[at].gref != other[at].gref || !same_pins(one[at].value, other[at].value) {
             return false;
         }
     }

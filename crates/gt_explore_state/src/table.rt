@@ -2,19 +2,22 @@
 ghost use Rattle.std.specs.Prelude.{◌≡◌};
 ghost use Rattle.gt_model.specs.Words.{header_word};
 
-use crate::rows::{change_own, counts_at, set_counts, word_at};
+use crate::rows::{
+    TableRow, change_own, counts_at, owner_entries, owner_entry_at, set_counts, word_at,
+};
 use gt_calls::{BodyWord, EntryChange, OwnerEntry};
 use gt_core::{CountsChange, PinCounts};
 use gt_entry::Header;
 use gt_types::GrantRef;
 use std::alloc::{AllocError, Global};
 
-/// A grant table: its header, and the rows of its entries up to the last one that was touched.
+/// A grant table: its header, and rows of what its owner knows of entries and of their counts, each list in ascending
+/// order of references. An entry without a row is in its initial state.
 #[derive(Drop)]
 pub struct SparseTable {
     pub header: Header,
-    pub own: Vec<OwnerEntry>,
-    pub counts: Vec<PinCounts>,
+    pub own: Vec<TableRow<OwnerEntry>>,
+    pub counts: Vec<TableRow<PinCounts>>,
 }
 
 // Returns the word of a header.
@@ -27,7 +30,7 @@ fn header_word(header: Header) -> u64
 impl SparseTable {
     ghost use Rattle.std.specs.Prelude.{◌≡◌, ◌%◌, [], IfOk, OnOk};
     ghost use Rattle.gt_model.specs.Words.{header_word};
-    ghost use Rattle.gt_explore_state.specs.Rows.{body_in_rows, word_in};
+    ghost use Rattle.gt_explore_state.specs.Rows.{ListsEntries, body_in_rows, counts_in, kept_entry, kept_generation, word_in};
     ghost use Rattle.gt_explore_state.specs.Tables.{CountsChangeOf, OwnChangeOf, HeaderStored, SameTable};
 
     /// Makes a table whose entries are all untouched.
@@ -54,6 +57,35 @@ impl SparseTable {
         })
     }
 
+    /// Returns what the owner knows of an entry.
+    pub fn owner_entry(&self, first_gen: u32, gref: GrantRef) -> OwnerEntry
+        ensures entry { result.entry ≡ kept_entry self.now.own.items gref.0 }
+        ensures generation { result.generation ≡ kept_generation first_gen self.now.own.items gref.0 }
+    {
+        owner_entry_at(self.own.as_slice(), first_gen, gref)
+    }
+
+    /// Lists what the owner knows of its entries, in the order of their references, up to the last one with a row.
+    ///
+    /// # Errors
+    /// `AllocError` if an allocation fails.
+    pub fn owner_entries(
+        &self,
+        alloc: Global,
+        first_gen: u32,
+    ) -> Result<Vec<OwnerEntry>, AllocError>
+        ensures { IfOk result (λ list. ListsEntries first_gen self.now.own.items list.items) }
+    {
+        owner_entries(alloc, self.own.as_slice(), first_gen)
+    }
+
+    /// Returns the counts of an entry: its pins, and its body words.
+    pub fn entry_counts(&self, gref: GrantRef) -> PinCounts
+        ensures { result ≡ counts_in self.now.counts.items gref.0 }
+    {
+        counts_at(self.counts.as_slice(), gref)
+    }
+
     /// Returns the header word.
     pub fn header_word(&self) -> u64
         ensures { result ≡ header_word self.now.header }
@@ -72,14 +104,14 @@ impl SparseTable {
     pub fn body(&self, gref: GrantRef, body_word: BodyWord) -> u64
         ensures { result ≡ body_in_rows self.now.counts.items gref.0 body_word }
     {
-        counts_at(self.counts.as_slice(), gref).body(body_word)
+        self.entry_counts(gref).body(body_word)
     }
 
     /// Changes the pins or a body word of an entry.
     pub fn change_counts(&mut self, gref: GrantRef, change: CountsChange) -> Result<(), AllocError>
         ensures { OnOk result (CountsChangeOf gref.0 change self.old self.new) }
     {
-        let new = counts_at(self.counts.as_slice(), gref).after(change);
+        let new = self.entry_counts(gref).after(change);
         set_counts(&mut self.counts, gref, new)
     }
 

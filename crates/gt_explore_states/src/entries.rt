@@ -8,9 +8,8 @@ ghost use Rattle.gt_explore_state.specs.Shows.{IsSettingOf, TableShows, TablesSh
 ghost use Rattle.gt_explore_state.specs.Tables.{table_in};
 ghost use Rattle.gt_explore_states.specs.Tables.{shown_in_table};
 
-use gt_calls::own_at;
 use gt_core::EntryView;
-use gt_explore_state::{SparseTable, counts_at};
+use gt_explore_state::SparseTable;
 use gt_roster::Roster;
 use gt_state_claims::ShowsEntries;
 use gt_types::{DomId, GrantRef};
@@ -40,8 +39,8 @@ fn shown_in_table(table: &SparseTable, first_gen: u32, gref: GrantRef) -> Option
     if gref.0 >= table.header.entries() {
         return None;
     }
-    let own = own_at(table.own.as_slice(), first_gen, gref);
-    let counts = counts_at(table.counts.as_slice(), gref);
+    let own = table.owner_entry(first_gen, gref);
+    let counts = table.entry_counts(gref);
     Some(EntryView {
         entry: own.entry(),
         generation: own.generation(),

@@ -4,7 +4,7 @@ ghost use Rattle.gt_script.specs.Contents.{contents_of};
 ghost use Rattle.gt_script_runs.specs.Rights.{may_by, may_in};
 ghost use Rattle.gt_explore_witness.specs.GivingAnswers.{is_forbidden, may_not_unmap};
 
-use gt_script::Script;
+use gt_script::ScriptHead;
 use gt_script_runs::ScriptPolicy;
 use gt_types::{Allows, DomId, DomainConfig, Memory, Perms, TypeId};
 use std::alloc::Global;
@@ -33,13 +33,13 @@ fn forbids(rights: &ScriptPolicy, domains: &[DomainConfig], dom: DomId) -> bool
     false
 }
 
-/// Returns whether there is a domain whose entries the policy of a script does not let this domain unmap.
+/// Returns whether there is a domain whose entries the head of a script does not let this domain unmap.
 ///
 /// # Errors
 /// `Memory` if an allocation fails.
-pub fn may_not_unmap(alloc: Global, script: &Script, dom: DomId) -> Result<bool, Memory>
-    ensures { IfOk result (λ b. b ≡ may_not_unmap (may_in (contents_of script.now)) script.now.domains dom) }
+pub fn may_not_unmap(alloc: Global, head: &ScriptHead, dom: DomId) -> Result<bool, Memory>
+    ensures { IfOk result (λ b. b ≡ may_not_unmap (may_in (contents_of head.now)) head.now.domains dom) }
 {
-    let rights = ScriptPolicy::of(alloc, script)?;
-    Ok(forbids(&rights, script.domains(), dom))
+    let rights = ScriptPolicy::of(alloc, head)?;
+    Ok(forbids(&rights, head.domains(), dom))
 }

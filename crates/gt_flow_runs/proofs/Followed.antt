@@ -20,7 +20,7 @@ use Rattle.gt_script_lines.specs.Hexadecimal.{hex_bytes}
 use Rattle.gt_script_lines.specs.declared.calls.ScriptCall.{ScriptCall}
 use Rattle.gt_script_lines.specs.declared.calls.ScriptCall.TheVariants as script_calls
 use Rattle.gt_script.specs.Lists.{RunAction, RunTask}
-use Rattle.gt_script.specs.declared.tasks.RunActionBy.TheVariants.{Await, Do, Tell}
+use Rattle.gt_script.specs.declared.tasks.RunAction.TheVariants.{Await, Do, Tell}
 use Rattle.gt_script_runs.specs.Printing.{answer_line}
 use Rattle.gt_script_runs.specs.Runs.{AnswerNothing, EndsWith, MakesRequest, Named, answer_in, handle_given}
 use Rattle.gt_script_runs.specs.Runs.{label_given, request_of, with_name}

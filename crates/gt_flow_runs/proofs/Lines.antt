@@ -23,7 +23,7 @@ use Rattle.gt_script.specs.Contents.{Contents, type_names}
 use Rattle.gt_script.specs.Lists.{RunAction, RunTask}
 use Rattle.gt_script.specs.RunContents.{RunContents}
 use Rattle.gt_script.specs.RunScripts.{list_of}
-use Rattle.gt_script.specs.declared.tasks.RunActionBy.TheVariants.{Await, Do, Tell}
+use Rattle.gt_script.specs.declared.tasks.RunAction.TheVariants.{Await, Do, Tell}
 use Rattle.gt_script_lines.specs.declared.calls.ScriptCall.{ScriptCall}
 use Rattle.gt_script_lines.specs.declared.calls.ScriptCall.TheVariants as script_calls
 use Rattle.gt_script_runs.specs.Playing.{setting_of_script}

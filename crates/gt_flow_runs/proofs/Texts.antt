@@ -24,7 +24,7 @@ use Rattle.gt_explore_replay.specs.Orders.{AllFollow, FlagsAreRaised, FollowsLis
 use Rattle.gt_flow.specs.Flow.{IsClosed}
 use Rattle.gt_flow.specs.Low.{is_high}
 use Rattle.gt_flow.proofs.OtherBytes.{each-has-others}
-use Rattle.gt_script.specs.declared.tasks.RunActionBy.TheVariants.{Await, Do, Tell}
+use Rattle.gt_script.specs.declared.tasks.RunAction.TheVariants.{Await, Do, Tell}
 use Rattle.gt_script_lines.specs.declared.calls.ScriptCall.{ScriptCall}
 use Rattle.gt_script_lines.specs.declared.calls.ScriptCall.TheVariants as script_calls
 use Rattle.gt_flow_runs.specs.Secrets.{SameAction, SameButHigh, SameButStored, SameForLow, SameTasks}

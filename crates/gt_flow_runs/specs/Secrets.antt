@@ -11,7 +11,7 @@ use Rattle.gt_script_lines.specs.declared.calls.ScriptCall.TheVariants.{Poke, St
 use Rattle.gt_script.specs.Contents.{type_names}
 use Rattle.gt_script.specs.Lists.{RunAction, RunTask}
 use Rattle.gt_script.specs.RunContents.{RunContents}
-use Rattle.gt_script.specs.declared.tasks.RunActionBy.TheVariants.{Do}
+use Rattle.gt_script.specs.declared.tasks.RunAction.TheVariants.{Do}
 use Rattle.gt_script_runs.specs.Playing.{setting_of_script}
 use Rattle.gt_script_runs.specs.Printing.{answer_line}
 use Rattle.gt_explore_replay.specs.Orders.{MayGive}

@@ -54,82 +54,101 @@ pub empty_read : (xs : List ℕ) (at : ℕ) → length xs ≡ 0 → get_or xs at
 empty_read [] at none = refl
 empty_read (x ∷ xs) at none = absurd (omega (arith, none))
 
-module _ (w v : Writers) (writs : v.writs ≡ w.writs) (used : v.used ≡ w.used) (limit : v.limit ≡ w.limit) (sound : AreWriters w) where
-  same-writs : v.writs.items ≡ w.writs.items
-  same-writs = ap (λ x. x.items) writs
+module _
+    (w v : Writers) (writs : v.writs ≡ w.writs) (used : v.used ≡ w.used) (limit : v.limit ≡ w.limit) (last : v.last ≡ w.last)
+    (last_writ : v.last_writ ≡ w.last_writ) (sound : AreWriters w)
+  where
+    same-writs : v.writs.items ≡ w.writs.items
+    same-writs = ap (λ x. x.items) writs
 
-  same-used : v.used.items ≡ w.used.items
-  same-used = ap (λ x. x.items) used
+    same-used : v.used.items ≡ w.used.items
+    same-used = ap (λ x. x.items) used
 
-  same-places : length v.used.items ≡ length v.writs.items
-  same-places = ap (λ x. length x.items) used ∙ sound.places ∙ sym (ap (λ x. length x.items) writs)
+    same-places : length v.used.items ≡ length v.writs.items
+    same-places = ap (λ x. length x.items) used ∙ sound.places ∙ sym (ap (λ x. length x.items) writs)
 
-  count : length v.writs.items ≡ length w.writs.items
-  count = ap (λ x. length x.items) writs
+    count : length v.writs.items ≡ length w.writs.items
+    count = ap (λ x. length x.items) writs
 
-  still-few : length v.writs.items ≤ most_writs
-  still-few = omega (arith, count, sound.few)
+    still-few : length v.writs.items ≤ most_writs
+    still-few = omega (arith, count, sound.few)
 
-  still-looks : v.limit ≤ most_writs
-  still-looks = omega (arith, limit, sound.looks)
+    still-looks : v.limit ≤ most_writs
+    still-looks = omega (arith, limit, sound.looks)
 
-  -- a range was given the number of a writ
-  pub sound_show :
-      (n off len : ℕ) → length w.below.items ≡ FRAME_SIZE → off + len ≤ FRAME_SIZE → n ≤ length w.writs.items → IsUsed w.used.items n
-      → length v.below.items ≡ length w.below.items → LiesIn v.latest v.below.items
-      → numbers_of v.below.items v.latest ≡ overlay (numbers_of w.below.items w.latest) off (replicate len n) → AreWriters v
-  sound_show n off len size fits within marked long lies laid =
-      let old : List ℕ = numbers_of w.below.items w.latest in
-      let all : length old ≡ length w.below.items = length_numbers w.below.items w.latest sound.lies in
-      let fits_in : off + len ≤ length old = omega (arith, size, fits, all) in
-      let read : (at : ℕ) → get_or (numbers_of v.below.items v.latest) at 0 ≡ get_or (overlay old off (replicate len n)) at 0 = λ at. ap (λ (xs : List ℕ). get_or xs at 0) laid in
-      record {
-        size = inr (long ∙ size);
-        lies = lies;
-        within = λ at. elim (range-read old off len n at fits_in) [
-          | inl y ↦ omega (arith, read at, y.2, within, count)
-          | inr y ↦ omega (arith, read at, y.1, sound.within at, count)
-        ];
-        marked = λ at. subst (λ (us : List Bool). IsUsed us (get_or (numbers_of v.below.items v.latest) at 0)) (sym same-used) (elim (range-read old off len n at fits_in) [
-          | inl y ↦ subst (λ (k : ℕ). IsUsed w.used.items k) (sym (read at ∙ y.2)) marked
-          | inr y ↦ subst (λ (k : ℕ). IsUsed w.used.items k) (sym (read at ∙ y.1)) (sound.marked at)
-        ]);
-        places = same-places;
-        few = still-few;
-        looks = still-looks;
-      }
+    had-last : 0 < v.last → 0 < w.last
+    had-last lt = omega (arith, last, lt)
 
-  -- the numbers of all bytes were made, and there were none before
-  module _ (same : v.latest ≡ w.latest) (zeros : v.below.items ≡ replicate FRAME_SIZE 0) (none : length w.below.items ≡ 0) where
-    start : v.latest.off ≡ 0
-    start = let e : v.latest.off ≡ w.latest.off = ap (λ s. s.off) same in omega (arith, e, sound.lies, none)
-
-    nothing : v.latest.len ≡ 0
-    nothing = let e : v.latest.len ≡ w.latest.len = ap (λ s. s.len) same in omega (arith, e, sound.lies, none)
-
-    no-number : (at : ℕ) → get_or (numbers_of v.below.items v.latest) at 0 ≡ 0
-    no-number at =
-        ap (λ (xs : List ℕ). get_or xs at 0) (no_stretch v.below.items v.latest start nothing ∙ zeros) ∙ zero-read FRAME_SIZE at
-
-    had-none : (at : ℕ) → get_or (numbers_of w.below.items w.latest) at 0 ≡ 0
-    had-none at = empty_read (numbers_of w.below.items w.latest) at (length_numbers w.below.items w.latest sound.lies ∙ none)
-
-    pub sound_zeros : AreWriters v
-    sound_zeros =
+    has-last : 0 < v.last → HasWrit v v.last v.last_writ
+    has-last lt =
+        let had : HasWrit w w.last w.last_writ = sound.last.has (had-last lt) in
         record {
-          size = inr (ap (λ (xs : List ℕ). length xs) zeros ∙ length-replicate {A = ℕ} FRAME_SIZE 0);
-          lies = omega (arith, start, nothing);
-          within = λ at. omega (arith, no-number at);
-          marked = λ at. used-zero v.used.items (get_or (numbers_of v.below.items v.latest) at 0) (omega (arith, no-number at));
+          is =
+              ap (λ (ws : List Writ). writ_under ws v.last) same-writs ∙ ap (λ (n : ℕ). writ_under w.writs.items n) last ∙ had.is
+              ∙ ap (λ (x : Writ). Some x) (sym last_writ);
+          within = omega (arith, last, count, had.within);
+          used = subst (λ (us : List Bool). IsUsed us v.last) (sym same-used) (subst (λ (n : ℕ). IsUsed w.used.items n) (sym last) had.used);
+        }
+
+    -- a range was given the number of a writ
+    pub sound_show :
+        (n off len : ℕ) → length w.below.items ≡ FRAME_SIZE → off + len ≤ FRAME_SIZE → n ≤ length w.writs.items → IsUsed w.used.items n
+        → length v.below.items ≡ length w.below.items → LiesIn v.latest v.below.items
+        → numbers_of v.below.items v.latest ≡ overlay (numbers_of w.below.items w.latest) off (replicate len n) → AreWriters v
+    sound_show n off len size fits within marked long lies laid =
+        let old : List ℕ = numbers_of w.below.items w.latest in
+        let all : length old ≡ length w.below.items = length_numbers w.below.items w.latest sound.lies in
+        let fits_in : off + len ≤ length old = omega (arith, size, fits, all) in
+        let read : (at : ℕ) → get_or (numbers_of v.below.items v.latest) at 0 ≡ get_or (overlay old off (replicate len n)) at 0 = λ at. ap (λ (xs : List ℕ). get_or xs at 0) laid in
+        record {
+          size = inr (long ∙ size);
+          lies = lies;
+          within = λ at. elim (range-read old off len n at fits_in) [
+            | inl y ↦ omega (arith, read at, y.2, within, count)
+            | inr y ↦ omega (arith, read at, y.1, sound.within at, count)
+          ];
+          marked = λ at. subst (λ (us : List Bool). IsUsed us (get_or (numbers_of v.below.items v.latest) at 0)) (sym same-used) (elim (range-read old off len n at fits_in) [
+            | inl y ↦ subst (λ (k : ℕ). IsUsed w.used.items k) (sym (read at ∙ y.2)) marked
+            | inr y ↦ subst (λ (k : ℕ). IsUsed w.used.items k) (sym (read at ∙ y.1)) (sound.marked at)
+          ]);
           places = same-places;
           few = still-few;
           looks = still-looks;
+          last = record { has = has-last; len = λ lt. long ∙ size };
         }
 
-    pub shows_zeros : ShowsSame w v
-    shows_zeros = λ at.
-        ap (λ (ws : List Writ). writ_under ws (get_or (numbers_of v.below.items v.latest) at 0)) same-writs
-        ∙ ap (λ (k : ℕ). writ_under w.writs.items k) (no-number at ∙ sym (had-none at))
+    -- the numbers of all bytes were made, and there were none before
+    module _ (same : v.latest ≡ w.latest) (zeros : v.below.items ≡ replicate FRAME_SIZE 0) (none : length w.below.items ≡ 0) where
+      start : v.latest.off ≡ 0
+      start = let e : v.latest.off ≡ w.latest.off = ap (λ s. s.off) same in omega (arith, e, sound.lies, none)
+
+      nothing : v.latest.len ≡ 0
+      nothing = let e : v.latest.len ≡ w.latest.len = ap (λ s. s.len) same in omega (arith, e, sound.lies, none)
+
+      no-number : (at : ℕ) → get_or (numbers_of v.below.items v.latest) at 0 ≡ 0
+      no-number at =
+          ap (λ (xs : List ℕ). get_or xs at 0) (no_stretch v.below.items v.latest start nothing ∙ zeros) ∙ zero-read FRAME_SIZE at
+
+      had-none : (at : ℕ) → get_or (numbers_of w.below.items w.latest) at 0 ≡ 0
+      had-none at = empty_read (numbers_of w.below.items w.latest) at (length_numbers w.below.items w.latest sound.lies ∙ none)
+
+      pub sound_zeros : AreWriters v
+      sound_zeros =
+          record {
+            size = inr (ap (λ (xs : List ℕ). length xs) zeros ∙ length-replicate {A = ℕ} FRAME_SIZE 0);
+            lies = omega (arith, start, nothing);
+            within = λ at. omega (arith, no-number at);
+            marked = λ at. used-zero v.used.items (get_or (numbers_of v.below.items v.latest) at 0) (omega (arith, no-number at));
+            places = same-places;
+            few = still-few;
+            looks = still-looks;
+            last = record { has = has-last; len = λ lt. ap (λ (xs : List ℕ). length xs) zeros ∙ length-replicate {A = ℕ} FRAME_SIZE 0 };
+          }
+
+      pub shows_zeros : ShowsSame w v
+      shows_zeros = λ at.
+          ap (λ (ws : List Writ). writ_under ws (get_or (numbers_of v.below.items v.latest) at 0)) same-writs
+          ∙ ap (λ (k : ℕ). writ_under w.writs.items k) (no-number at ∙ sym (had-none at))
 
 -- the last writ after one more record
 last_writ-append : (rs : List WriteRecord) (r : WriteRecord) (at : ℕ) (w : Option Writ)

@@ -50,6 +50,17 @@ count_used (false ∷ used) = count_used used
 abbrev pub most_writs : ℕ
 most_writs = 2 * FRAME_SIZE
 
+-- the number is that of this writ, and its slot is marked
+pub record HasWrit (w : Writers) (n : ℕ) (writ : Writ) : Type 0 where
+  pub is : writ_under w.writs.items n ≡ Some writ
+  pub within : n ≤ length w.writs.items
+  pub used : IsUsed w.used.items n
+
+-- if a writ was used last, it has the number kept beside it, and there are numbers for all bytes
+pub record KeepsLast (w : Writers) : Type 0 where
+  pub has : 0 < w.last → HasWrit w w.last w.last_writ
+  pub len : 0 < w.last → length w.below.items ≡ FRAME_SIZE
+
 -- each byte's number is 0 or that of a writ whose slot is marked, and the number of writs is within its bound
 pub record AreWriters (w : Writers) : Type 0 where
   pub size : (length w.below.items ≡ 0) ⊎ (length w.below.items ≡ FRAME_SIZE)
@@ -59,6 +70,7 @@ pub record AreWriters (w : Writers) : Type 0 where
   pub places : length w.used.items ≡ length w.writs.items
   pub few : length w.writs.items ≤ most_writs
   pub looks : w.limit ≤ most_writs
+  pub last : KeepsLast w
 
 -- each byte has the writ that it had
 abbrev pub ShowsSame : Writers → Writers → Type 0
@@ -74,12 +86,6 @@ pub record KeepsWriters (v w : Writers) : Type 0 where
   pub sound : AreWriters w
   pub same : ShowsSame v w
   pub len : length w.below.items ≡ length v.below.items
-
--- the number is that of this writ, and its slot is marked
-pub record HasWrit (w : Writers) (n : ℕ) (writ : Writ) : Type 0 where
-  pub is : writ_under w.writs.items n ≡ Some writ
-  pub within : n ≤ length w.writs.items
-  pub used : IsUsed w.used.items n
 
 -- for each byte, the writ of this journal's last write to it is kept
 pub record KnowsWriters (w : Writers) (journal : List WriteRecord) : Type 0 where

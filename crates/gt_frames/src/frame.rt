@@ -92,9 +92,38 @@ fn range_of(bytes: &[u8], range: Range) -> &[u8]
     &bytes[start..start + usize::from(range.len)]
 }
 
-// Copies a range of the contents within them. The ranges may overlap, so the bytes are first copied out. It is not
+// Lays the bytes over the contents.
+#[inline(always)]
+fn lay(contents: &mut Contents, off: u16, bytes: &[u8])
+    requires size { length contents.old ≡ FRAME_SIZE }
+    requires range { off + length bytes.now ≤ FRAME_SIZE }
+    ensures contents { contents.new ≡ overlay contents.old off bytes.now }
+    ensures laid { slice_range contents.new off (off + length bytes.now) ≡ bytes.now }
+{
+    let start = usize::from(off);
+    contents[start..start + bytes.len()].copy_from_slice(bytes);
+}
+
+// Moves a range of the contents within them. The ranges may overlap, so the bytes are first copied out. It is not
 // inlined, since its caller would then have room for them too.
 #[inline(never)]
+fn move_own(contents: &mut Contents, range: Range, to_off: u16)
+    requires size { length contents.old ≡ FRAME_SIZE }
+    requires source { range.off + range.len ≤ FRAME_SIZE }
+    requires range { to_off + range.len ≤ FRAME_SIZE }
+    ensures contents { contents.new
+        ≡ overlay contents.old to_off (slice_range contents.old range.off (range.off + range.len)) }
+    ensures moved { slice_range contents.new to_off (to_off + range.len)
+        ≡ slice_range contents.old range.off (range.off + range.len) }
+{
+    let mut room = [0; FRAME_SIZE as usize];
+    let taken = &mut room[..usize::from(range.len)];
+    taken.copy_from_slice(range_of(contents, range));
+    lay(contents, to_off, taken);
+}
+
+// Copies a range of the contents within them, and keeps by which writ.
+#[inline(always)]
 fn store_own(
     writers: &mut Writers,
     journal: &mut Journal,
@@ -115,10 +144,12 @@ fn store_own(
     ensures journal_kept { OnErr result (journal.new ≡ journal.old) }
     ensures contents_kept { OnErr result (contents.new ≡ contents.old) }
 {
-    let mut room = [0; FRAME_SIZE as usize];
-    let taken = &mut room[..usize::from(range.len)];
-    taken.copy_from_slice(range_of(contents, range));
-    store(writers, journal, contents, writ, to_off, taken)
+    let number = writers.number_of(writ)?;
+    let (start, len) = (usize::from(to_off), usize::from(range.len));
+    writers.show(number, start, len);
+    move_own(contents, range, to_off);
+    journal.add(writ, to_off, len, contents);
+    Ok(())
 }
 
 impl Frame {
@@ -292,6 +323,7 @@ impl Frame {
     /// # Errors
     ///
     /// `Memory`, if an allocation fails. The frame is then unchanged.
+    #[inline(always)]
     pub fn copy_within(&mut self, writ: &Writ, range: Range, to_off: u16) -> Result<Copied, Memory>
         requires { CanCopy writ.now self.old range to_off }
         ensures { IsCopy self.old self.old self.new writ.now range to_off result }

@@ -72,11 +72,57 @@ fn is_domain(a: DomId, b: DomId) -> bool
     a.0 == b.0
 }
 
+// Returns true only if both entries are equal. It compares parts, and not by `==`, which is a call with both entries in
+// memory. An invalid entry is of no writ, so it is not compared.
 #[inline(always)]
 fn is_entry(a: &Entry, b: &Entry) -> bool
     ensures { IsTrue result → a.now ≡ b.now }
 {
-    a == b
+    match (*a, *b) {
+        (
+            Entry::Page { dom, ro, frame },
+            Entry::Page {
+                dom: dom_b,
+                ro: ro_b,
+                frame: frame_b,
+            },
+        ) => frame == frame_b && is_domain(dom, dom_b) && ro == ro_b,
+        (
+            Entry::Sub {
+                dom,
+                ro,
+                frame,
+                off,
+                len,
+            },
+            Entry::Sub {
+                dom: dom_b,
+                ro: ro_b,
+                frame: frame_b,
+                off: off_b,
+                len: len_b,
+            },
+        ) => {
+            frame == frame_b && is_domain(dom, dom_b) && ro == ro_b && off == off_b && len == len_b
+        }
+        (
+            Entry::Via {
+                dom,
+                ro,
+                dom2,
+                gref,
+            },
+            Entry::Via {
+                dom: dom_b,
+                ro: ro_b,
+                dom2: dom2_b,
+                gref: gref_b,
+            },
+        ) => {
+            is_domain(dom, dom_b) && ro == ro_b && is_domain(dom2, dom2_b) && gref.0 == gref_b.0
+        }
+        _ => false,
+    }
 }
 
 #[inline(always)]

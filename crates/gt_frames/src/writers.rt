@@ -4,9 +4,16 @@ ghost use Rattle.std.specs.Prelude.{slice_index_or};
 ghost use Rattle.gt_model.specs.Written.{overlay};
 ghost use Rattle.gt_frames.specs.Writers.{IsUsed, LiesIn, count_used, numbers_of};
 
-use crate::Writ;
-use gt_types::{FRAME_SIZE, Memory};
+use crate::{Writ, WriteBasis};
+use gt_types::{DomId, FRAME_SIZE, Memory};
 use std::alloc::Global;
+use std::mem;
+
+// The last writ of a frame that was not written yet. No access is compared with it.
+const NO_WRIT: Writ = Writ {
+    writer: DomId(0),
+    basis: WriteBasis::Owned,
+};
 
 // The least number of writs at which unused ones are searched for.
 const MIN_LIMIT: usize = 128;
@@ -41,8 +48,10 @@ pub(crate) struct Writers {
     writs: Vec<Writ>,
     // For each slot, whether a byte may have its writ.
     used: Vec<bool>,
-    // The number of the writ used last, or 0.
+    // The number of the writ used last, or 0. Its slot is marked as used, and there are numbers for all bytes.
     last: u16,
+    // The writ with that number, beside it: an access by the writ of the access before looks into no list.
+    last_writ: Writ,
     // The number of the writ used before that one, or 0. Two writs that alternate keep their slots.
     previous: u16,
     // The slot at which the search for a free one begins.
@@ -176,6 +185,7 @@ impl Writers {
             writs: Vec::new(alloc),
             used: Vec::new(alloc),
             last: 0,
+            last_writ: NO_WRIT,
             previous: 0,
             next: 0,
             limit: MIN_LIMIT,
@@ -217,6 +227,8 @@ impl Writers {
         ensures few { count_used self.new.used.items ≤ FRAME_SIZE }
     {
         flush(&mut self.below, &mut self.latest);
+        self.previous = self.last;
+        self.last = 0;
         mark(&self.below, &mut self.used);
         self.limit = (2 * count(&self.used)).max(MIN_LIMIT);
     }
@@ -307,15 +319,14 @@ impl Writers {
         ensures len { OnOk result (length self.new.below.items ≡ FRAME_SIZE) }
         ensures has { IfOk result (λ n. HasWrit self.new n writ.now) }
     {
-        if self.is_writ(self.last, writ) && self.below.len() == FRAME_SIZE as usize {
-            let place = usize::from(self.last) - 1;
-            self.used[place] = true;
+        if self.last != 0 && self.last_writ.equals(writ) {
             return Ok(self.last);
         }
-        self.number_of_other(*writ)
+        let mut other = *writ;
+        self.number_of_other(&mut other)
     }
 
-    // Returns the number of the previous writ, which becomes the last one.
+    // Marks the slot of the previous writ as used, and returns its number.
     fn use_previous(&mut self) -> u16
         requires sound { AreWriters self.old }
         requires there { (0 < self.old.previous) × (self.old.previous ≤ length self.old.writs.items) }
@@ -327,33 +338,50 @@ impl Writers {
         ensures used { IsUsed self.new.used.items result }
     {
         let number = self.previous;
-        self.previous = self.last;
-        self.last = number;
         let place = usize::from(number) - 1;
         self.used[place] = true;
         number
     }
 
-    // The slow path of `number_of`: a writ other than the last, or the frame's first write. Takes the writ by
-    // value, so that the fast path can keep it in registers.
+    // Makes the writ with this number the last one, in exchange for the one before.
+    fn make_last(&mut self, number: u16, writ: &mut Writ)
+        requires sound { AreWriters self.old }
+        requires has { HasWrit self.old number writ.old }
+        requires len { length self.old.below.items ≡ FRAME_SIZE }
+        ensures sound { AreWriters self.new }
+        ensures same { ShowsSame self.old self.new }
+        ensures below { self.new.below ≡ self.old.below }
+        ensures has { HasWrit self.new number writ.old }
+    {
+        if self.last != 0 {
+            self.previous = self.last;
+        }
+        self.last = number;
+        mem::swap(&mut self.last_writ, writ);
+    }
+
+    // The slow path of `number_of`: a writ other than the last, or the frame's first write. Exchanges the writ for the
+    // last one. It takes a copy that it may change, which is made on this path only: the fast path has its writ in
+    // registers.
     #[cold]
     #[inline(never)]
-    fn number_of_other(&mut self, writ: Writ) -> Result<u16, Memory>
+    fn number_of_other(&mut self, writ: &mut Writ) -> Result<u16, Memory>
         requires { AreWriters self.old }
         ensures sound { AreWriters self.new }
         ensures same { ShowsSame self.old self.new }
         ensures len { OnOk result (length self.new.below.items ≡ FRAME_SIZE) }
-        ensures has { IfOk result (λ n. HasWrit self.new n writ) }
+        ensures has { IfOk result (λ n. HasWrit self.new n writ.old) }
     {
         self.make_numbers()?;
-        if self.is_writ(self.previous, &writ) {
-            return Ok(self.use_previous());
-        }
-        let place = self.free_place(&writ)?;
-        self.put(place, &writ);
-        self.previous = self.last;
-        self.last = place as u16 + 1;
-        Ok(self.last)
+        let number = if self.is_writ(self.previous, writ) {
+            self.use_previous()
+        } else {
+            let place = self.free_place(writ)?;
+            self.put(place, writ);
+            place as u16 + 1
+        };
+        self.make_last(number, writ);
+        Ok(number)
     }
 
     /// Records that the bytes of this range were written by the writ with this number.

@@ -6,7 +6,7 @@ use Rattle.std.proofs.lemmas.List.Elements.{All-get_or}
 use Rattle.std.specs.Io.KnownBytes.{Appends, Keeps}
 use Rattle.std.specs.Prelude.{All, IsTrue}
 use Rattle.gt_script.specs.declared.script.ScriptStep.{ScriptStep}
-use Rattle.gt_script.specs.Contents.{Contents, type_names, first_gen}
+use Rattle.gt_script.specs.Contents.{Contents, type_names, first_gen, KeptContents, contents_of, kept_head_in}
 use Rattle.gt_types.specs.Config.{is_taken}
 use Rattle.gt_types.specs.declared.TypeId.{TypeId}
 use Rattle.gt_types.specs.declared.perms.Perms.{Perms}
@@ -49,6 +49,10 @@ same_setting_of_script c core starts =
     ap (λ (ds : List DomainConfig). record { domains = ds; first_generation = core.config.first_gen; may = may_by core.rights }) starts.domains
     ∙ ap (λ (n : ℕ). record { domains = c.domains; first_generation = n; may = may_by core.rights }) starts.generation
     ∙ ap (λ (may : TypeId → TypeId → Perms → Bool). record { domains = c.domains; first_generation = first_gen c; may = may }) starts.rights
+
+-- a core that starts with the head of a script starts with the script
+pub starts_whole : (k : KeptContents) (core : CoreModel ScriptPolicy) → StartsFor (contents_of (kept_head_in k)) core → StartsFor (contents_of k) core
+starts_whole k core starts = record { domains = starts.domains; generation = starts.generation; rights = starts.rights; stands = starts.stands }
 
 -- nothing has happened yet
 pub starts_underway : (c : Contents) (audit : Bool) (core : CoreModel ScriptPolicy) (kept : PlayState) (waiting : List ℕ) (old : Option (List ℕ)) → StartsFor c core → KeepsProgress kept at_start → kept.audit.is_on ≡ audit → RecordsNothing kept → waiting ≡ []

@@ -64,7 +64,8 @@ fn run_lines<'s, 'a, W: Write>(
         (W.contents writer.old) (W.contents writer.new)) }
     ensures errors { IfErr result (λ e. (e ≡ steps_faults.Memory) ⊎ (e ≡ steps_faults.Write)) }
 {
-    let types = script.type_names(alloc)?;
+    let head = script.head();
+    let types = head.type_names(alloc)?;
     let mut kept = PlayState::new(alloc, audit);
     let mut waiting = Vec::new(alloc);
     let steps = script.steps();
@@ -72,7 +73,7 @@ fn run_lines<'s, 'a, W: Write>(
         run_step(core, &mut kept, types.as_slice(), step, &mut waiting)?;
         send(writer, &mut waiting)?;
     }
-    push_open_lines(&mut waiting, script.domains(), &kept.calls)?;
+    push_open_lines(&mut waiting, head.domains(), &kept.calls)?;
     kept.audit.push_lines(&mut waiting, types.as_slice())?;
     finish(writer, waiting.as_slice())?;
     Ok(())
@@ -91,7 +92,7 @@ fn run_script<W: Write>(
         (W.contents writer.old) (W.contents writer.new)) }
     ensures errors { IfErr result (λ e. (e ≡ steps_faults.Memory) ⊎ (e ≡ steps_faults.Write)) }
 {
-    let mut core = core_of(alloc, script)?;
+    let mut core = core_of(alloc, script.head())?;
     run_lines(alloc, &mut core, script, writer, audit)
 }
 

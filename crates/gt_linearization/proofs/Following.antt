@@ -16,7 +16,7 @@ use Rattle.gt_model.specs.declared.trace.Answer.TheVariants as answers
 use Rattle.gt_script_runs.specs.Printing.{answer_line}
 use Rattle.gt_script_runs.specs.Runs.{MakesRequest, Named, handle_given, label_given, with_name}
 use Rattle.gt_script.specs.Lists.{RunAction, RunTask}
-use Rattle.gt_script.specs.declared.tasks.RunActionBy.TheVariants.{Do}
+use Rattle.gt_script.specs.declared.tasks.RunAction.TheVariants.{Do}
 use Rattle.gt_script_lines.specs.declared.calls.ScriptCall.{ScriptCall}
 use Rattle.gt_explore_replay.specs.Orders.{CallHappens, ActionHappens, GivesMappingsBack, Happening, Prints, given_up}
 use Rattle.gt_explore_replay.specs.Orders.{handles_without, held_after}

@@ -56,7 +56,7 @@ use Rattle.gt_script.specs.RunScripts.{list_of}
 use Rattle.gt_explore_replay.specs.Orders.{ActionHappens, Happening, given_up, held_after, passed, raised}
 use Rattle.gt_script.specs.Lists.{RunAction, RunTask}
 use Rattle.gt_script.specs.Stuck.{IsBelow}
-use Rattle.gt_script.specs.declared.tasks.RunActionBy.TheVariants.{Await, Do, Tell}
+use Rattle.gt_script.specs.declared.tasks.RunAction.TheVariants.{Await, Do, Tell}
 use Rattle.gt_run.specs.Asking.{Asks, MakesFlagStep, RaisesFlag}
 use Rattle.gt_run.specs.Printing.{AreServed, HasViewIn, Served, ShowOneState, WasServed, jobs_in}
 use Rattle.gt_run.specs.Serving.{DoesAction, DoesWhere, EndsList, ListLeadsTo, MakesCall, ListOutcome, ListProgress}

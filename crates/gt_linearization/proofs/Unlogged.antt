@@ -14,7 +14,7 @@ use Rattle.gt_audit.specs.declared.record.Record.{Record}
 use Rattle.gt_script_runs.specs.Rights.{may_by}
 use Rattle.gt_script_runs.specs.declared.rights.ScriptPolicy.{ScriptPolicy}
 use Rattle.gt_script.specs.Lists.{RunAction, RunTask}
-use Rattle.gt_script.specs.declared.tasks.RunActionBy.TheVariants.{Await, Do, Tell}
+use Rattle.gt_script.specs.declared.tasks.RunAction.TheVariants.{Await, Do, Tell}
 use Rattle.gt_live.specs.Domains.{AllowRelation}
 use Rattle.gt_run.specs.Printing.{AreServed, Served, WasServed, all_lost, audits_in, jobs_in, run_text, texts_in}
 use Rattle.gt_run.specs.Serving.{DoesAction, DoesWhere, ListLeadsTo, ListOutcome, ListProgress, Records}

@@ -17,7 +17,7 @@ pub use Rattle.gt_linearization.specs.Runs.CallOutcome.{MadeMapping, Read, NoMem
 pub use Rattle.gt_run.specs.Printing.{Served, WasServed, WritesAll}
 pub use Rattle.gt_run.specs.Serving.{MakesCall, ListOutcome, ListProgress}
 pub use Rattle.gt_run.specs.declared.lists.ThreadJob.{ThreadJob}
-pub use Rattle.gt_script.specs.declared.tasks.RunActionBy.TheVariants.{Await, Do, Tell}
+pub use Rattle.gt_script.specs.declared.tasks.RunAction.TheVariants.{Await, Do, Tell}
 pub use Rattle.gt_script.specs.Lists.{RunAction, RunTask}
 pub use Rattle.gt_types.specs.declared.config.Config.{Config}
 pub use Rattle.gt_types.specs.declared.denial.Denial.{Denial}

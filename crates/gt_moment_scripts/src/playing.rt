@@ -23,8 +23,11 @@ use gt_text::{push_number, push_text, text_of};
 use gt_types::{DomId, LONGEST_TEXT};
 use std::alloc::{AllocError, Global};
 
-// Returns what `play` prints for a script.
-fn played(alloc: Global, script: &[u8]) -> Result<Vec<u8>, TextsFault>
+/// Returns what `play` prints for a script.
+///
+/// # Errors
+/// `Astray` if this is not a script for `play`, and `Memory`.
+pub fn played(alloc: Global, script: &[u8]) -> Result<Vec<u8>, TextsFault>
     ensures { IfOk result (λ out. Played (ReadsAsScript script.now) false (Some []) (Some out.items) (Ok tt)) }
 {
     let mut out = Vec::new(alloc);
@@ -120,9 +123,12 @@ fn push_shows(out: &mut Vec<u8>, named: &[NamedEntry]) -> Result<(), AllocError>
     Ok(())
 }
 
-// Returns this comment, and the line in place of a script that was not found: this domain leaves with a mapping that the
-// policy does not let it unmap, and `play` has no line for that.
-fn without_script(
+/// Returns this comment, and the line in place of a script that was not found: this domain leaves with a mapping that
+/// the policy does not let it unmap, and `play` has no line for that.
+///
+/// # Errors
+/// `Astray` if the policy lets the domain unmap the entries of each domain, and `Memory`.
+pub fn without_script(
     alloc: Global,
     script: &RunScript,
     comment: &[u8],

@@ -9,10 +9,9 @@ use Rattle.std.specs.Option.{option_map}
 use Rattle.std.specs.Prelude.{◌==◌, AllPairs}
 use Rattle.std.specs.Str.Lines.{lines as lines_in}
 use Rattle.gt_types.specs.Config.{is_taken}
-use Rattle.gt_script.specs.Contents.{Contents, KeptContents, contents_of, without_orders}
-use Rattle.gt_script.specs.Flags.{flag_names_of}
-use Rattle.gt_script.specs.Laws.{GiveParts, IsScriptFor, lines_said, named_task_on}
-use Rattle.gt_script.specs.Lists.{NamedRunAction, NamedRunTask}
+use Rattle.gt_script.specs.Contents.{Contents, KeptContents, contents_of, head_in}
+use Rattle.gt_script.specs.Laws.{GiveParts, IsScriptFor, lines_said, task_on}
+use Rattle.gt_script.specs.Lists.{RunAction}
 use Rattle.gt_script.specs.declared.command.ScriptCommand.{ScriptCommand}
 use Rattle.gt_script.specs.declared.command.ScriptCommand.TheVariants.{Play, Run}
 use Rattle.gt_script_lines.specs.Fields.{◌>>=◌}
@@ -22,11 +21,11 @@ use Rattle.gt_script_lines.specs.Words.{words}
 use Rattle.gt_script_lines.specs.declared.lines.ScriptLine.{ScriptLine}
 use Rattle.gt_script.specs.RunContents.{RunKept, run_contents}
 use Rattle.gt_script.specs.RunScripts.{ReadsAsRun}
+use Rattle.gt_script.specs.Stuck.{AreNumbered}
 use Rattle.gt_script.specs.Script.{ReadsFor, run_action_in}
-use Rattle.gt_script.specs.Tasks.{task_of, tasks_of}
 use Rattle.gt_script_lines.specs.declared.lines.ScriptLine.TheVariants as script_lines
 use Rattle.gt_script.proofs.FaultLemmas.{answers-script}
-use Rattle.gt_script.proofs.RunLemmas.{known, numbered, ordered}
+use Rattle.gt_script.proofs.RunLemmas.{tasks-known, tasks-numbered}
 use Rattle.gt_precedence.specs.Prelude.{DomId, DomainConfig, RunContents, RunTask, domain_of, is_call}
 use Rattle.gt_precedence.specs.Precedence.{IsOrderly}
 
@@ -50,44 +49,39 @@ rising-apart n (t ∷ ts) rising =
 
 -- the task of a line has its number
 
-task-by : (n : ℕ) (id : Option ℕ) (a : Option NamedRunAction) (t : NamedRunTask) → (id >>= λ k. a >>= λ run_action. Some (record { line = n; dom = record { 0 = k }; run_action = run_action })) ≡ Some t → t.line ≡ n
+task-by : (n : ℕ) (id : Option ℕ) (a : Option RunAction) (t : RunTask) → (id >>= λ k. a >>= λ run_action. Some (record { line = n; dom = record { 0 = k }; run_action = run_action })) ≡ Some t → t.line ≡ n
 task-by n None a t is = absurd (none-some _ is)
 task-by n (Some k) None t is = absurd (none-some _ is)
-task-by n (Some k) (Some a) t is = sym (ap (λ (u : NamedRunTask). u.line) (same_Some _ t is))
+task-by n (Some k) (Some a) t is = sym (ap (λ (u : RunTask). u.line) (same_Some _ t is))
 
-line-of-task : (command : ScriptCommand) (n : ℕ) (l : ScriptLine) (t : NamedRunTask) → named_task_on command n l ≡ Some t → t.line ≡ n
-line-of-task command n (script_lines.Triple x) t is = absurd (none-some _ is)
-line-of-task command n (script_lines.Wear x) t is = absurd (none-some _ is)
-line-of-task command n (script_lines.Domain x) t is = absurd (none-some _ is)
-line-of-task Play n (script_lines.Body number asks) t is = absurd (none-some _ is)
-line-of-task Run n (script_lines.Body number asks) t is = task-by n (number_below (2 ^ 16) number) (run_action_in asks) t is
+line-of-task : (command : ScriptCommand) (flags : List (List ℕ)) (n : ℕ) (l : ScriptLine) (t : RunTask) → task_on command flags n l ≡ Some t → t.line ≡ n
+line-of-task command flags n (script_lines.Triple x) t is = absurd (none-some _ is)
+line-of-task command flags n (script_lines.Wear x) t is = absurd (none-some _ is)
+line-of-task command flags n (script_lines.Domain x) t is = absurd (none-some _ is)
+line-of-task Play flags n (script_lines.Body number asks) t is = absurd (none-some _ is)
+line-of-task Run flags n (script_lines.Body number asks) t is = task-by n (number_below (2 ^ 16) number) (run_action_in flags asks) t is
 
-tasks-rise : (command : ScriptCommand) (n : ℕ) (ls : List (List ℕ)) → Rising n (map (λ t. t.line) (filter_map (λ l. named_task_on command l.0 l.1) (lines_said n ls)))
-tasks-rise command n [] = tt
-tasks-rise command n (l ∷ ls) = by (line_of (words l)) (tasks-rise command (n + 1) ls) where
-  rest : List NamedRunTask
-  rest = filter_map (λ l. named_task_on command l.0 l.1) (lines_said (n + 1) ls)
+tasks-rise : (command : ScriptCommand) (flags : List (List ℕ)) (n : ℕ) (ls : List (List ℕ)) → Rising n (map (λ t. t.line) (filter_map (λ l. task_on command flags l.0 l.1) (lines_said n ls)))
+tasks-rise command flags n [] = tt
+tasks-rise command flags n (l ∷ ls) = by (line_of (words l)) (tasks-rise command flags (n + 1) ls) where
+  rest : List RunTask
+  rest = filter_map (λ l. task_on command flags l.0 l.1) (lines_said (n + 1) ls)
 
-  task : (o : Option NamedRunTask) → ((t : NamedRunTask) → o ≡ Some t → t.line ≡ n) → Rising (n + 1) (map (λ t. t.line) rest) → Rising n (map (λ t. t.line) (cons_option o rest))
+  task : (o : Option RunTask) → ((t : RunTask) → o ≡ Some t → t.line ≡ n) → Rising (n + 1) (map (λ t. t.line) rest) → Rising n (map (λ t. t.line) (cons_option o rest))
   task None is more = rising-later n (n + 1) (map (λ t. t.line) rest) (omega arith) more
   task (Some t) is more = let same = is t refl in (omega (arith, same), subst (λ (k : ℕ). Rising (k + 1) (map (λ u. u.line) rest)) (sym same) more)
 
-  by : (o : Option ScriptLine) → Rising (n + 1) (map (λ t. t.line) rest) → Rising n (map (λ t. t.line) (filter_map (λ l. named_task_on command l.0 l.1) (cons_option (option_map (λ x. (n, x)) o) (lines_said (n + 1) ls))))
+  by : (o : Option ScriptLine) → Rising (n + 1) (map (λ t. t.line) rest) → Rising n (map (λ t. t.line) (filter_map (λ l. task_on command flags l.0 l.1) (cons_option (option_map (λ x. (n, x)) o) (lines_said (n + 1) ls))))
   by None more = rising-later n (n + 1) (map (λ t. t.line) rest) (omega arith) more
-  by (Some x) more = task (named_task_on command n x) (line-of-task command n x) more
-
-same-lines : (flags : List (List ℕ)) (ts : List NamedRunTask) → map (λ t. t.line) (map (task_of flags) ts) ≡ map (λ t. t.line) ts
-same-lines flags [] = refl
-same-lines flags (t ∷ ts) = ap (λ (l : List ℕ). t.line ∷ l) (same-lines flags ts)
+  by (Some x) more = task (task_on command flags n x) (line-of-task command flags n x) more
 
 -- the numbers of the lines of tasks rise
-parts-rise : (n : ℕ) (ls : List (List ℕ)) (c : Contents) → GiveParts n ls c → Rising n (map (λ t. t.line) (tasks_of c))
-parts-rise n ls c parts =
-    subst (Rising n) (sym (same-lines (flag_names_of c.named_tasks) c.named_tasks)) (subst (λ (ts : List NamedRunTask). Rising n (map (λ t. t.line) ts)) (sym parts.named_tasks) (tasks-rise c.command n ls))
+parts-rise : (n : ℕ) (ls : List (List ℕ)) (c : Contents) → GiveParts n ls c → Rising n (map (λ t. t.line) c.tasks)
+parts-rise n ls c parts = subst (λ (ts : List RunTask). Rising n (map (λ t. t.line) ts)) (sym parts.tasks) (tasks-rise c.command c.flags n ls)
 
-script-apart : (ls : List (List ℕ)) (c : Contents) → IsScriptFor Run ls c → AllPairs (λ t u. t.line ≢ u.line) (tasks_of c)
-script-apart ls c (inl script) = rising-apart _ (tasks_of c) (parts-rise _ ls c script.parts)
-script-apart ls c (inr script) = rising-apart _ (tasks_of c) (parts-rise _ script.rest c script.parts)
+script-apart : (ls : List (List ℕ)) (c : Contents) → IsScriptFor Run ls c → AllPairs (λ t u. t.line ≢ u.line) c.tasks
+script-apart ls c (inl script) = rising-apart _ c.tasks (parts-rise _ ls c script.parts)
+script-apart ls c (inr script) = rising-apart _ c.tasks (parts-rise _ script.rest c script.parts)
 
 -- domains
 
@@ -100,13 +94,13 @@ taken-known (d ∷ ds) dom taken = by (d.id.0 == dom.0) refl (taken-known ds dom
 
 pub parsed-orderly : (bytes : List ℕ) (s : RunKept) → ReadsAsRun bytes (Ok (run_contents s)) → IsOrderly (run_contents s)
 parsed-orderly bytes s (c, reads, (ends, is)) =
-    let head : contents_of s.head ≡ without_orders c = ap (λ (k : RunContents). k.head) is in
-    let kept : KeptContents = record s.head { named_tasks = c.named_tasks } in
-    let whole : contents_of kept ≡ c = ap (λ (k : Contents). record k { named_tasks = c.named_tasks }) head in
+    let head : contents_of s.head ≡ head_in c = ap (λ (k : RunContents). k.head) is in
+    let kept : KeptContents = record s.head { steps = c.steps; tasks = c.tasks; flags = c.flags } in
+    let whole : contents_of kept ≡ c = ap (λ (k : Contents). record k { steps = c.steps; tasks = c.tasks; flags = c.flags }) head in
     let script : IsScriptFor Run (lines_in bytes) c = subst (IsScriptFor Run (lines_in bytes)) whole (answers-script Run bytes (Ok kept) (subst (λ (k : Contents). ReadsFor Run bytes (Ok k)) (sym whole) reads)) in
-    let tasks : s.tasks ≡ tasks_of c = ap (λ (k : RunContents). k.tasks) is in record {
+    let tasks : s.tasks ≡ c.tasks = ap (λ (k : RunContents). k.tasks) is in record {
       lines = AllPairs-filter (λ t u. t.line ≢ u.line) (λ t. is_call t.run_action) s.tasks (subst (AllPairs (λ t u. t.line ≢ u.line)) (sym tasks) (script-apart (lines_in bytes) c script));
-      numbered = numbered c.named_tasks s.flags s.tasks (ap (λ (k : RunContents). k.flags) is) tasks;
+      numbered = subst (λ (k : RunContents). AreNumbered k.flags k.tasks) (sym is) (tasks-numbered (lines_in bytes) c script);
       known = All-weaker (λ t. IsTrue (is_taken s.head.domains t.dom)) (λ t. domain_of s.head.domains t.dom ≢ None) (λ t taken. taken-known s.head.domains t.dom taken) s.tasks
-          (subst (λ (ds : List DomainConfig). All (λ t. IsTrue (is_taken ds t.dom)) s.tasks) (sym (ap (λ (k : Contents). k.domains) head)) (known c.named_tasks c.domains s.tasks tasks (ordered (lines_in bytes) c script)));
+          (subst (λ (k : RunContents). All (λ t. IsTrue (is_taken k.head.domains t.dom)) k.tasks) (sym is) (tasks-known (lines_in bytes) c script));
     }

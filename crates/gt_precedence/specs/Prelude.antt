@@ -17,7 +17,7 @@ pub use Rattle.gt_script.specs.RunContents.{RunContents, RunKept, run_contents}
 pub use Rattle.gt_script.specs.RunScripts.{ReadsAsRun, list_of}
 pub use Rattle.gt_script.specs.Stuck.{AreNumbered, IsBelow}
 pub use Rattle.gt_script.specs.declared.precedence.Precedence.{Precedence}
-pub use Rattle.gt_script.specs.declared.tasks.RunActionBy.TheVariants.{Await, Do, Tell}
+pub use Rattle.gt_script.specs.declared.tasks.RunAction.TheVariants.{Await, Do, Tell}
 pub use Rattle.gt_script_runs.specs.Playing.{setting_of_script}
 pub use Rattle.gt_script_runs.specs.Printing.{answer_line}
 pub use Rattle.gt_script_lines.specs.declared.calls.ScriptCall.{ScriptCall}

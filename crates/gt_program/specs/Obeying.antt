@@ -12,7 +12,8 @@ use Rattle.gt_program.specs.Prelude.{one_diagram, all_scripts, several_claims, E
 use Rattle.gt_program.specs.Prelude.{ClaimsFault}
 use Rattle.gt_program.specs.Prelude.{ClaimsExplored, NamedExplored, SearchAsked, Moment, Moves, One, Races, Several}
 use Rattle.gt_program.specs.Prelude.{Together, Summarized, SummaryOptions, SummaryRequest, Answers, Difference}
-use Rattle.gt_program.specs.Prelude.{a_summary, a_difference, a_state_claim, all_races, RacesExplored, ReadsAsRun, Traced, TraceOptions}
+use Rattle.gt_program.specs.Prelude.{a_summary, a_difference, a_state_claim, all_races, one_race, RacesExplored}
+use Rattle.gt_program.specs.Prelude.{RaceOptions, RaceRequest, ReadsAsRun, Traced, TraceOptions}
 use Rattle.gt_program.specs.Prelude.{TraceRequest, Diagram, Trace}
 use Rattle.gt_explore_by_choice.specs.Exploring.{ExploresByChoices}
 use Rattle.gt_explore_by_choice.specs.declared.fault.UnitedFault.{UnitedFault}
@@ -26,6 +27,7 @@ use Rattle.gt_explore_moments.specs.Exploring.{MomentExplored}
 use Rattle.gt_explore_moments.specs.declared.asking.MomentFault.{MomentFault}
 use Rattle.gt_explore_moments.specs.declared.asking.MomentFault.TheVariants as moment_faults
 use Rattle.gt_explore_moments.specs.declared.asking.MomentOptions.{MomentOptions}
+use Rattle.gt_explore_racing.specs.declared.asking.RaceRequest.TheVariants as race_requests
 use Rattle.gt_explore_precedence.specs.Exploring.{PrecedingExplored}
 use Rattle.gt_explore_precedence.specs.Terms.{has_precedence}
 use Rattle.gt_explore_precedence.specs.declared.exploring.PrecedenceOptions.{PrecedenceOptions}
@@ -116,16 +118,17 @@ MovesExplored asked input old new (Err (claims_faults.Repeated first second)) = 
 MovesExplored asked input old new (Err (claims_faults.Precedence fault)) = ⊥
 MovesExplored asked input old new (Err claims_faults.Astray) = ⊥
 
--- what was written for the lines that race; its faults are those of a search
-abbrev pub RacesSearched : ℕ → List ℕ → Option (List ℕ) → Option (List ℕ) → Result Verdict ClaimsFault → Type 0
-RacesSearched states input old new (Ok verdict) = RacesExplored states (ReadsAsRun input) old new (Ok verdict)
-RacesSearched states input old new (Err (claims_faults.Explore fault)) =
-    RacesExplored states (ReadsAsRun input) old new (Err fault)
-RacesSearched states input old new (Err (claims_faults.Kind number)) = ⊥
-RacesSearched states input old new (Err (claims_faults.Term claim number fault)) = ⊥
-RacesSearched states input old new (Err (claims_faults.Repeated first second)) = ⊥
-RacesSearched states input old new (Err (claims_faults.Precedence fault)) = ⊥
-RacesSearched states input old new (Err claims_faults.Astray) = ⊥
+-- what was written about races; its faults are those of a search
+abbrev pub RacesSearched : RaceOptions → List ℕ → Option (List ℕ) → Option (List ℕ) → Result Verdict ClaimsFault
+    → Type 0
+RacesSearched asked input old new (Ok verdict) = RacesExplored asked (ReadsAsRun input) old new (Ok verdict)
+RacesSearched asked input old new (Err (claims_faults.Explore fault)) =
+    RacesExplored asked (ReadsAsRun input) old new (Err fault)
+RacesSearched asked input old new (Err (claims_faults.Kind number)) = ⊥
+RacesSearched asked input old new (Err (claims_faults.Term claim number fault)) = ⊥
+RacesSearched asked input old new (Err (claims_faults.Repeated first second)) = ⊥
+RacesSearched asked input old new (Err (claims_faults.Precedence fault)) = ⊥
+RacesSearched asked input old new (Err claims_faults.Astray) = ⊥
 
 -- the claim of a request whose expression has terms of order
 abbrev pub precedence_in : ℕ → ExploreFormat → ExploreRequest → Option PrecedenceOptions
@@ -179,14 +182,14 @@ SearchesMoment asked input old new (Err failure) =
     × MomentExplored asked (ReadsAsRun input) old new (Err fault)
 
 -- a text without choices is explored, for what is asked: one request, in which calls may be named, several claims, a
--- summary, moves, a claim about what entries show, or the lines that race
+-- summary, moves, a claim about what entries show, or races
 abbrev pub SearchesPlain : SearchAsked → Doing
 SearchesPlain (One asked) input old new r = SearchesTexts (OneExplored asked input old new) r
 SearchesPlain (Several asked) input old new r = SearchesTexts (ClaimsExplored asked input old new) r
 SearchesPlain (Together asked) input old new r = SearchesTexts (SummaryExplored asked input old new) r
 SearchesPlain (Moves asked) input old new r = SearchesTexts (MovesExplored asked input old new) r
 SearchesPlain (Moment asked) input old new r = SearchesMoment asked input old new r
-SearchesPlain (Races states) input old new r = SearchesTexts (RacesSearched states input old new) r
+SearchesPlain (Races asked) input old new r = SearchesTexts (RacesSearched asked input old new) r
 
 -- the failure for a fault of a script with choices
 abbrev pub failure_united : UnitedFault → Failure
@@ -216,7 +219,7 @@ SearchesByChoices (Several asked) source old new r = HasNoAnswer old new r
 SearchesByChoices (Together asked) source old new r = HasNoAnswer old new r
 SearchesByChoices (Moves asked) source old new r = HasNoAnswer old new r
 SearchesByChoices (Moment asked) source old new r = HasNoAnswer old new r
-SearchesByChoices (Races states) source old new r = HasNoAnswer old new r
+SearchesByChoices (Races asked) source old new r = HasNoAnswer old new r
 
 -- a line of the text is a choice: `maybe` or `leave`
 abbrev pub has_choice_line : List ℕ → Bool
@@ -298,6 +301,11 @@ abbrev pub sought_moves : TraceRequest → Sought
 sought_moves (Trace number) = one_trace number
 sought_moves (Diagram number) = one_diagram number
 
+-- what is sought by a request about races
+abbrev pub sought_races : RaceRequest → Sought
+sought_races race_requests.Lines = all_races
+sought_races (race_requests.Witness number) = one_race number
+
 -- this is asked for what is sought, in a format, up to this number of states
 abbrev pub IsAskedFor : Sought → ℕ → ExploreFormat → SearchAsked → Type 0
 IsAskedFor sought states format (One asked) =
@@ -310,7 +318,8 @@ IsAskedFor sought states format (Moves asked) =
     (sought ≡ sought_moves asked.request) × (asked.format ≡ format) × (asked.states ≡ states)
 IsAskedFor sought states format (Moment asked) =
     (sought ≡ a_state_claim asked.claim.now) × (asked.states ≡ states)
-IsAskedFor sought states format (Races limit) = (sought ≡ all_races) × (limit ≡ states)
+IsAskedFor sought states format (Races asked) =
+    (sought ≡ sought_races asked.request) × (asked.states ≡ states)
 
 -- a script is explored so
 abbrev pub Seeks : Sought → Format → ℕ → Doing

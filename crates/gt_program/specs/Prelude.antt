@@ -8,7 +8,8 @@ pub use Rattle.gt_command_line.specs.Commands.{mode_of, to_list, to_play, to_run
 pub use Rattle.gt_command_line.specs.Commands.{to_tell_rules}
 pub use Rattle.gt_command_line.specs.Commands.{Sought, all_texts, a_claim, one_diagram, one_script, one_trace}
 pub use Rattle.gt_command_line.specs.Commands.{all_scripts}
-pub use Rattle.gt_command_line.specs.Commands.{a_difference, a_state_claim, a_summary, all_races, several_claims}
+pub use Rattle.gt_command_line.specs.Commands.{a_difference, a_state_claim, a_summary, all_races, one_race}
+pub use Rattle.gt_command_line.specs.Commands.{several_claims}
 pub use Rattle.gt_command_line.specs.declared.invocation.Mode.{Mode}
 pub use Rattle.gt_command_line.specs.declared.invocation.Format.{Format}
 pub use Rattle.gt_explore_claims.specs.Exploring.{ClaimsExplored, NamedExplored}
@@ -21,6 +22,8 @@ pub use Rattle.gt_explore_summary.specs.declared.asking.SummaryOptions.{SummaryO
 pub use Rattle.gt_explore_summary.specs.declared.asking.SummaryRequest.{SummaryRequest}
 pub use Rattle.gt_explore_summary.specs.declared.asking.SummaryRequest.TheVariants.{Answers, Difference}
 pub use Rattle.gt_explore_racing.specs.Exploring.{RacesExplored}
+pub use Rattle.gt_explore_racing.specs.declared.asking.RaceOptions.{RaceOptions}
+pub use Rattle.gt_explore_racing.specs.declared.asking.RaceRequest.{RaceRequest}
 pub use Rattle.gt_explore_tracing.specs.Writing.{Traced}
 pub use Rattle.gt_explore_tracing.specs.declared.asking.TraceOptions.{TraceOptions}
 pub use Rattle.gt_explore_tracing.specs.declared.asking.TraceRequest.{TraceRequest}

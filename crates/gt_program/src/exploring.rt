@@ -7,10 +7,11 @@ ghost use Rattle.gt_command_line.specs.Commands.{sought_by};
 ghost use Rattle.gt_command_line.specs.Files.{file_name_of};
 ghost use Rattle.gt_file_commands.specs.Working.{known_input, DoesOnFile, Works};
 ghost use Rattle.gt_file_commands.specs.declared.outcome.Outcome.TheVariants.{Unknown};
-ghost use Rattle.gt_program.specs.Obeying.{explore_format, explored_ending, verdict_outcome, FindsText, IsAskedFor};
-ghost use Rattle.gt_program.specs.Obeying.{Searches, SearchesPlain, Seeks, unread_failure};
-ghost use Rattle.gt_program.specs.Obeying.{MovesExplored, OneExplored, RacesSearched, SeeksText, SummaryExplored};
+ghost use Rattle.gt_program.specs.Obeying.{explore_format, explored_ending, verdict_outcome, FindsText};
+ghost use Rattle.gt_program.specs.Obeying.{IsAskedFor, Searches, SearchesPlain, SearchesTexts, Seeks};
+ghost use Rattle.gt_program.specs.Obeying.{unread_failure, MovesExplored, OneExplored, RacesSearched, SeeksText, SummaryExplored};
 ghost use Rattle.gt_program.specs.Obeying.{precedence_asked};
+ghost use Rattle.gt_program.specs.declared.exploring.SearchAsked.TheVariants.{Moves, Together};
 
 use crate::choosing::{search_choices, source_with_choice};
 use crate::moments::search_moment;
@@ -23,7 +24,7 @@ use gt_explore_claims::{ClaimsOptions, explore_claims, explore_named};
 use gt_explore_faults::{ClaimsFault, ExploreFault};
 use gt_explore_moments::MomentOptions;
 use gt_explore_precedence::{PrecedenceOptions, explore_preceding, has_precedence};
-use gt_explore_racing::explore_races;
+use gt_explore_racing::{RaceOptions, RaceRequest, explore_races};
 use gt_explore_search::SearchWatch;
 use gt_explore_summary::{SummaryOptions, SummaryRequest, summarize};
 use gt_explore_tracing::{TraceOptions, TraceRequest, trace_bytes};
@@ -36,7 +37,7 @@ use std::io::{Read, Write};
 use std::time::Clock;
 
 /// What is asked about a script: one request about its texts, the verdicts on several claims, a summary, the moves that
-/// lead to a text, the verdict on a claim about what entries show, or the lines that race, up to a number of states.
+/// lead to a text, the verdict on a claim about what entries show, or the races, up to a number of states.
 #[derive(Clone, Copy)]
 pub(crate) enum SearchAsked<'w> {
     One(ExploreOptions<'w>),
@@ -44,7 +45,7 @@ pub(crate) enum SearchAsked<'w> {
     Together(SummaryOptions),
     Moves(TraceOptions),
     Moment(MomentOptions<'w>),
-    Races(usize),
+    Races(RaceOptions),
 }
 
 // Returns the format of an exploration.
@@ -55,6 +56,36 @@ fn explore_format(format: Format) -> ExploreFormat
         Format::Text => ExploreFormat::Text,
         Format::Json => ExploreFormat::Json,
     }
+}
+
+// Returns what is asked for with a summary.
+fn together_asked<'w>(
+    request: SummaryRequest,
+    states: usize,
+    format: ExploreFormat,
+) -> SearchAsked<'w>
+    ensures { result ≡ Together (record { request = request; states = states; format = format }) }
+{
+    SearchAsked::Together(SummaryOptions {
+        request,
+        states,
+        format,
+    })
+}
+
+// Returns what is asked for with the moves that lead to a text.
+fn moves_asked_for<'w>(
+    request: TraceRequest,
+    states: usize,
+    format: ExploreFormat,
+) -> SearchAsked<'w>
+    ensures { result ≡ Moves (record { request = request; states = states; format = format }) }
+{
+    SearchAsked::Moves(TraceOptions {
+        request,
+        states,
+        format,
+    })
 }
 
 // Returns what is asked for with these options.
@@ -72,38 +103,33 @@ fn asked_for<'w>(asked: Exploration<'w>, states: usize, format: ExploreFormat) -
             });
         }
         Exploration::Summary => {
-            return SearchAsked::Together(SummaryOptions {
-                request: SummaryRequest::Answers,
-                states,
-                format,
-            });
+            return together_asked(SummaryRequest::Answers, states, format);
         }
         Exploration::Difference(one, other) => {
-            return SearchAsked::Together(SummaryOptions {
-                request: SummaryRequest::Difference(one, other),
-                states,
-                format,
-            });
+            return together_asked(SummaryRequest::Difference(one, other), states, format);
         }
         Exploration::NeverState(claim) => {
             return SearchAsked::Moment(MomentOptions { claim, states });
         }
-        Exploration::Races => return SearchAsked::Races(states),
+        Exploration::Races => {
+            return SearchAsked::Races(RaceOptions {
+                request: RaceRequest::Lines,
+                states,
+            });
+        }
+        Exploration::RaceWitness(number) => {
+            return SearchAsked::Races(RaceOptions {
+                request: RaceRequest::Witness(number),
+                states,
+            });
+        }
         Exploration::Witness(number) => ExploreRequest::Witness(number),
         Exploration::Witnesses => ExploreRequest::Witnesses,
         Exploration::Trace(number) => {
-            return SearchAsked::Moves(TraceOptions {
-                request: TraceRequest::Trace(number),
-                states,
-                format,
-            });
+            return moves_asked_for(TraceRequest::Trace(number), states, format);
         }
         Exploration::Diagram(number) => {
-            return SearchAsked::Moves(TraceOptions {
-                request: TraceRequest::Diagram(number),
-                states,
-                format,
-            });
+            return moves_asked_for(TraceRequest::Diagram(number), states, format);
         }
     };
     SearchAsked::One(ExploreOptions {
@@ -158,20 +184,24 @@ fn moves_asked<W: Write, X: SearchWatch>(
     }
 }
 
-// Prints the pairs of lines of the script in these bytes that race.
-fn races_asked<W: Write, X: SearchWatch>(
+// Prints the races of the script in these bytes, or a script that shows one of them, and adds the reason of a fault.
+fn search_races<W: Write, X: SearchWatch>(
     alloc: Global,
-    states: usize,
+    options: &RaceOptions,
     input: &[u8],
     out: &mut W,
+    reasons: &mut Reasons,
     watch: &mut X,
-) -> Result<Verdict, ClaimsFault>
+) -> Result<Outcome, Failure>
     ensures { (all : List ℕ) → input.now ≡ take READ_LIMIT all →
-        RacesSearched states all (W.contents out.old) (W.contents out.new) result }
+        SearchesTexts (RacesSearched options.now all (W.contents out.old) (W.contents out.new)) result }
 {
-    match explore_races(alloc, states, input, out, watch) {
-        Ok(verdict) => Ok(verdict),
-        Err(fault) => Err(ClaimsFault::Explore(fault)),
+    match explore_races(alloc, options, input, out, watch) {
+        Ok(verdict) => Ok(of_verdict(verdict)),
+        Err(fault) => {
+            reasons.add_race(&KeptInput::of(alloc, input), &fault);
+            Err(Failure::Explore(ClaimsFault::Explore(fault)))
+        }
     }
 }
 
@@ -263,10 +293,7 @@ fn search_plain<W: Write, X: SearchWatch>(
         SearchAsked::Moment(options) => {
             search_moment(alloc, options, input, out, reasons, watch)
         }
-        SearchAsked::Races(states) => {
-            let raced = races_asked(alloc, *states, input, out, watch);
-            explored_ending(alloc, input, raced, reasons)
-        }
+        SearchAsked::Races(options) => { search_races(alloc, options, input, out, reasons, watch) }
     }
 }
 

@@ -19,7 +19,7 @@ use Rattle.gt_word_history.specs.Rule.{Layout}
 use Rattle.gt_word_history.specs.declared.view.FlagStep.{FlagStep}
 use Rattle.gt_word_history.specs.declared.view.FlagStep.TheVariants.{Passed, Raised}
 use Rattle.gt_script.specs.Lists.{RunAction, RunTask}
-use Rattle.gt_script.specs.declared.tasks.RunActionBy.TheVariants.{Do, Tell, Await}
+use Rattle.gt_script.specs.declared.tasks.RunAction.TheVariants.{Do, Tell, Await}
 use Rattle.gt_run.specs.Serving.{ServesCall, DoesAction, DoesWhere, HasCome, IsKeptAt, IsReady, LogsOutcomes}
 use Rattle.gt_run.specs.Serving.{ListLeadsTo}
 use Rattle.gt_run.specs.Serving.{ListProgress, Serves, ServesSome, StartsLogged, answer_lines, list_start, counted}

@@ -31,7 +31,7 @@ pub use Rattle.gt_run.specs.declared.lists.ThreadJob.{ThreadJob}
 pub use Rattle.gt_run.specs.declared.lists.DomainPart.{DomainPart}
 pub use Rattle.gt_run.specs.declared.logging.TrailLogger.{TrailLogger}
 pub use Rattle.gt_script.specs.Lists.{RunAction, RunTask}
-pub use Rattle.gt_script.specs.declared.tasks.RunActionBy.TheVariants.{Await, Do, Tell}
+pub use Rattle.gt_script.specs.declared.tasks.RunAction.TheVariants.{Await, Do, Tell}
 pub use Rattle.gt_text.specs.Printing.{type_text}
 pub use Rattle.gt_types.specs.declared.DomId.{DomId}
 pub use Rattle.gt_types.specs.declared.Size.{Size}

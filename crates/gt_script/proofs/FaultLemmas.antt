@@ -26,7 +26,7 @@ use Rattle.gt_script.specs.Script.{is_empty, has_no_rights, with_words, with_lin
 use Rattle.gt_script.specs.Script.{whole_script}
 use Rattle.gt_script.specs.Script.{in_result, in_script, in_policy, ClosedReads, BlockReads, LinesRead, TextReads, ReadsFor}
 use Rattle.gt_script.specs.Script.{Wrong}
-use Rattle.gt_script.specs.Laws.{lines_said, domain_in, step_on, named_task_on, is_for, GiveParts, IsTripleScript}
+use Rattle.gt_script.specs.Laws.{lines_said, domain_in, step_on, task_on, is_for, GiveParts, IsTripleScript}
 use Rattle.gt_script.specs.Laws.{IsPolicyScript}
 use Rattle.gt_script.specs.Laws.{IsScriptFor, HasBlock, lines_before, IsOpen, IsFaultOfLine, IsFaultOfEnd}
 use Rattle.gt_script.specs.Laws.{IsFirstScriptFault}
@@ -40,6 +40,7 @@ use Rattle.gt_script.specs.declared.faults.ScriptFaultKind.{ScriptFaultKind}
 use Rattle.gt_script.specs.declared.faults.ScriptFaultKind.TheVariants.{Syntax, Config}
 use Rattle.gt_script.specs.declared.faults.ScriptFault.{ScriptFault}
 use Rattle.gt_text.specs.Laws.{take_whole}
+use Rattle.gt_script.proofs.FlagLemmas.{FlagsKept-refl}
 use Rattle.gt_script.proofs.BlockLemmas.{OpensAt, opens_at, none_opens, ClosesAt, closes_at, none_closes}
 use Rattle.gt_script.proofs.ScriptLemmas.{texts}
 use Rattle.gt_script.proofs.LawLemmas.{with_lines-Extends, faultless-none}
@@ -173,12 +174,14 @@ triple_script command ls s w =
         wear = x.wear;
         domains = subst (λ (o : Option Allowed). s.domains ≡ filter_map (λ l. domain_in (type_names_with o s.types) l.1) (lines_said 1 ls)) (sym x.policy) (x.domains s.types (Grown-refl s.types));
         steps = subst (λ (k : ScriptCommand). s.steps ≡ filter_map (λ l. step_on k l.0 l.1) (lines_said 1 ls)) (sym x.command) x.steps;
-        named_tasks = subst (λ (k : ScriptCommand). s.named_tasks ≡ filter_map (λ l. named_task_on k l.0 l.1) (lines_said 1 ls)) (sym x.command) x.named_tasks;
+        flags = x.flags;
+        tasks = subst (λ (k : ScriptCommand). s.tasks ≡ filter_map (λ l. task_on k s.flags l.0 l.1) (lines_said 1 ls)) (sym x.command) (x.tasks s.flags (FlagsKept-refl s.flags));
         suited = subst (λ (k : ScriptCommand). All (λ l. IsTrue (is_for k l.1)) (lines_said 1 ls)) (sym x.command) x.suited;
         faultless = x.faultless faultless-none;
         generation = first_gen-small 1 ls s.wear x.wear;
         configured = x.configured (λ k y past. absurd (omega arith));
         ordered = x.ordered (λ k y past. absurd (omega arith));
+        numbered = x.numbered (λ k y past. absurd (omega arith));
         some_domain = empty-false s.domains w.domains;
       };
       for_command = x.command;
@@ -197,12 +200,14 @@ rest_says command n ls p s w =
       wear = x.wear;
       domains = subst (λ (o : Option Allowed). s.domains ≡ filter_map (λ l. domain_in (type_names_with o s.types) l.1) (lines_said n ls)) (sym x.policy) (x.domains s.types (Grown-refl s.types));
       steps = subst (λ (k : ScriptCommand). s.steps ≡ filter_map (λ l. step_on k l.0 l.1) (lines_said n ls)) (sym x.command) x.steps;
-      named_tasks = subst (λ (k : ScriptCommand). s.named_tasks ≡ filter_map (λ l. named_task_on k l.0 l.1) (lines_said n ls)) (sym x.command) x.named_tasks;
+      flags = x.flags;
+      tasks = subst (λ (k : ScriptCommand). s.tasks ≡ filter_map (λ l. task_on k s.flags l.0 l.1) (lines_said n ls)) (sym x.command) (x.tasks s.flags (FlagsKept-refl s.flags));
       suited = subst (λ (k : ScriptCommand). All (λ l. IsTrue (is_for k l.1)) (lines_said n ls)) (sym x.command) x.suited;
       faultless = x.faultless faultless-none;
       generation = first_gen-small n ls s.wear x.wear;
       configured = x.configured (λ k y past. absurd (omega arith));
       ordered = x.ordered (λ k y past. absurd (omega arith));
+      numbered = x.numbered (λ k y past. absurd (omega arith));
       some_domain = empty-false s.domains w.domains;
     }
 

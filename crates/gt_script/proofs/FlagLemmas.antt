@@ -1,19 +1,20 @@
 -- Flags numbered as they first appear.
-use Rattle.std.proofs.Common.{◌≡◌, ℕ, ◌+◌, ◌<◌, ◌||◌, not, Bool, true, false, List, [], ◌∷◌, ◌++◌, length}
-use Rattle.std.proofs.Common.{Option, Some, None, refl, sym, ap, ◌∙◌, subst, arith, All, cond}
-use Rattle.std.proofs.Common.{Bor}
-use Rattle.std.specs.List.{filter_map, fold, list_any, position_or_len, cons_option}
+use Rattle.std.proofs.Common.{◌≡◌, ℕ, ◌+◌, ◌≤◌, ◌<◌, ◌||◌, not, Bool, true, false, List, [], ◌∷◌, ◌++◌, length}
+use Rattle.std.proofs.Common.{Some, None, refl, sym, ap, ◌∙◌, subst, arith, cond, Bor, length-append}
+use Rattle.std.specs.List.{list_any, position_or_len}
+use Rattle.std.specs.Option.{is_some}
 use Rattle.std.specs.Str.{bytes_eq}
-use Rattle.std.proofs.lemmas.List.{map-append}
-use Rattle.std.proofs.lemmas.List.Elements.{All-nil, All-cons, All-map, All-tail, filter_map-append}
+use Rattle.std.proofs.lemmas.List.Elements.{All-weaker}
 use Rattle.std.proofs.lemmas.List.Folds.{list_any-append}
-use Rattle.std.proofs.lemmas.List.Sums.{fold-append}
-use Rattle.gt_types.specs.declared.DomId.{DomId}
-use Rattle.gt_script.specs.Flags.{borrowed_names, with_flag, with_flag_of, flag_in, flag_names_of, flag_number}
+use Rattle.std.proofs.lemmas.Option.{same_Some}
+use Rattle.gt_script_lines.specs.declared.body.BodyLine.{BodyLine}
+use Rattle.gt_script_lines.specs.declared.body.BodyLine.TheVariants as body_lines
+use Rattle.gt_script.specs.Flags.{borrowed_names, with_flag, with_flag_of, flag_in, flag_number}
+use Rattle.gt_script.specs.Script.{play_action_in, run_action_in}
 use Rattle.gt_script.specs.Stuck.{IsBelow, AreNumbered}
-use Rattle.gt_script.specs.Tasks.{action_of, task_of, tasks_for}
-use Rattle.gt_script.specs.Lists.{NamedRunTask, NamedRunAction, RunAction, RunTask}
-use Rattle.gt_script.specs.declared.tasks.RunActionBy.TheVariants as run_actions
+use Rattle.gt_script.specs.Lists.{RunAction, RunTask}
+use Rattle.gt_script.specs.declared.actions.ScriptAction.{ScriptAction}
+use Rattle.gt_script.specs.declared.tasks.RunAction.TheVariants as run_actions
 use Rattle.gt_script.proofs.TypeLemmas.{same_bytes}
 
 any-names : (keys : List (Bor (List ℕ))) (name : List ℕ) → list_any (λ k. bytes_eq name k.now) keys ≡ list_any (bytes_eq name) (borrowed_names keys)
@@ -39,23 +40,10 @@ position-names : (keys : List (Bor (List ℕ))) (name : List ℕ) → position_o
 position-names [] name = refl
 position-names (k ∷ ks) name = ap (λ (n : ℕ). cond (not (bytes_eq name k.now)) (1 + n) 0) (position-names ks name)
 
--- the number of a name in the set, which is that of a name that is added
-pub number-names : (keys : List (Bor (List ℕ))) (name : List ℕ) (n : ℕ) → n ≡ position_or_len (λ k. bytes_eq name k.now) keys → n ≡ flag_number (borrowed_names keys) name
+-- the number of a name in the set
+number-names : (keys : List (Bor (List ℕ))) (name : List ℕ) (n : ℕ) → n ≡ position_or_len (λ k. bytes_eq name k.now) keys → n ≡ flag_number (borrowed_names keys) name
 unfolding flag_number
 number-names keys name n is = is ∙ position-names keys name
-
--- the names after one line more
-
-named-one : (names : List (List ℕ)) (line : NamedRunAction) → fold with_flag names (cons_option (flag_in line) []) ≡ with_flag_of names line
-named-one names (run_actions.Do call) = refl
-named-one names (run_actions.Tell flag) = refl
-named-one names (run_actions.Await flag) = refl
-
-flags-more : (named_tasks : List NamedRunTask) (o : NamedRunTask) → flag_names_of (named_tasks ++ o ∷ []) ≡ with_flag_of (flag_names_of named_tasks) o.run_action
-flags-more named_tasks o =
-    ap (fold with_flag []) (filter_map-append (λ (x : NamedRunTask). flag_in x.run_action) named_tasks (o ∷ []))
-    ∙ fold-append with_flag [] (filter_map (λ (x : NamedRunTask). flag_in x.run_action) named_tasks) (cons_option (flag_in o.run_action) [])
-    ∙ named-one (flag_names_of named_tasks) o.run_action
 
 -- each flag that is named has a number
 
@@ -84,14 +72,6 @@ has-new : (names : List (List ℕ)) (name : List ℕ) → Has (with_flag names n
 unfolding with_flag
 has-new names name = has-new-by names name (list_any (bytes_eq name) names) refl
 
-has-kept : (more names : List (List ℕ)) (name : List ℕ) → Has names name → Has (fold with_flag names more) name
-has-kept [] names name h = h
-has-kept (m ∷ more) names name h = has-kept more (with_flag names m) name (has-more names m name h)
-
-has-all : (more names : List (List ℕ)) → All (Has (fold with_flag names more)) more
-has-all [] names = All-nil (Has names)
-has-all (m ∷ more) names = All-cons (Has (fold with_flag names (m ∷ more))) m more (has-kept more (with_flag names m) m (has-new names m)) (has-all more (with_flag names m))
-
 position-here : (p : List ℕ → Bool) (x : List ℕ) (xs : List (List ℕ)) (b : Bool) → p x ≡ b → (list_any p xs ≡ true → position_or_len p xs < length xs) → list_any p (x ∷ xs) ≡ true → position_or_len p (x ∷ xs) < length (x ∷ xs)
 position-here p x xs true e later h = rw e (omega arith)
 position-here p x xs false e later h =
@@ -106,27 +86,6 @@ position-below p (x ∷ xs) h = position-here p x xs (p x) refl (position-below 
 number-below : (names : List (List ℕ)) (name : List ℕ) → Has names name → flag_number names name < length names
 unfolding flag_number
 number-below names name h = position-below (bytes_eq name) names h
-
-line-below : (names : List (List ℕ)) (line : NamedRunAction) → ((name : List ℕ) → flag_in line ≡ Some name → Has names name) → IsBelow (length names) (action_of names line)
-unfolding action_of
-line-below names (run_actions.Do call) h = tt
-line-below names (run_actions.Tell flag) h = number-below names flag (h flag refl)
-line-below names (run_actions.Await flag) h = number-below names flag (h flag refl)
-
-first-named : (names : List (List ℕ)) (o : Option (List ℕ)) (more : List (List ℕ)) → All (Has names) (cons_option o more) → (name : List ℕ) → o ≡ Some name → Has names name
-first-named names None more h name e = absurd cc
-first-named names (Some other) more h name e = let same : other ≡ name = cc in subst (Has names) same (h 0 other (omega arith))
-
-rest-named : (names : List (List ℕ)) (o : Option (List ℕ)) (more : List (List ℕ)) → All (Has names) (cons_option o more) → All (Has names) more
-rest-named names None more h = h
-rest-named names (Some other) more h = All-tail (Has names) other more h
-
-lines-below : (names : List (List ℕ)) (named_tasks : List NamedRunTask) → All (Has names) (filter_map (λ o. flag_in o.run_action) named_tasks) → All (λ (o : NamedRunTask). IsBelow (length names) (action_of names o.run_action)) named_tasks
-lines-below names [] h = All-nil (λ (o : NamedRunTask). IsBelow (length names) (action_of names o.run_action))
-lines-below names (o ∷ named_tasks) h =
-    All-cons (λ (o : NamedRunTask). IsBelow (length names) (action_of names o.run_action)) o named_tasks
-    (line-below names o.run_action (first-named names (flag_in o.run_action) _ h))
-    (lines-below names named_tasks (rest-named names (flag_in o.run_action) _ h))
 
 -- a name keeps its number when others are added
 
@@ -166,61 +125,93 @@ number-kept : (names : List (List ℕ)) (other name : List ℕ) → Has names na
 unfolding with_flag flag_number
 number-kept names other name h = number-kept-by names other name (list_any (bytes_eq other) names) h
 
--- the two actions that name a flag, by the number of the flag
+-- the number of a name that is added to the set
+pub number-added : (keys new : List (Bor (List ℕ))) (key : Bor (List ℕ)) (n : ℕ) → new ≡ cond (list_any (λ k. bytes_eq key.now k.now) keys) keys (keys ++ key ∷ []) → n ≡ position_or_len (λ k. bytes_eq key.now k.now) keys
+    → n ≡ flag_number (borrowed_names new) key.now
+number-added keys new key n is at =
+    number-names keys key.now n at ∙ sym (number-new (borrowed_names keys) key.now) ∙ ap (λ (l : List (List ℕ)). flag_number l key.now) (sym (add-names keys new key is))
 
-abbrev pub told : ℕ → RunAction
-told n = run_actions.Tell n
+-- the names grow so that each flag keeps its number
+pub record FlagsKept (old new : List (List ℕ)) : Type 0 where
+  pub named : (name : List ℕ) → Has old name → Has new name
+  pub number : (name : List ℕ) → Has old name → flag_number new name ≡ flag_number old name
+  pub many : length old ≤ length new
 
-abbrev pub awaited : ℕ → RunAction
-awaited n = run_actions.Await n
+pub FlagsKept-refl : (names : List (List ℕ)) → FlagsKept names names
+FlagsKept-refl names = record { named = λ name h. h; number = λ name h. refl; many = omega arith }
 
-flag-new : (names new : List (List ℕ)) (flag bytes : List ℕ) (n : ℕ) → bytes ≡ flag → new ≡ with_flag names bytes → n ≡ flag_number names bytes → n ≡ flag_number new flag
-flag-new names new flag bytes n same named number =
-    number ∙ sym (number-new names bytes) ∙ ap (λ (l : List (List ℕ)). flag_number l bytes) (sym named) ∙ ap (λ (w : List ℕ). flag_number new w) same
+pub FlagsKept-trans : (a b c : List (List ℕ)) → FlagsKept a b → FlagsKept b c → FlagsKept a c
+FlagsKept-trans a b c h k = record {
+  named = λ name has. k.named name (h.named name has);
+  number = λ name has. k.number name (h.named name has) ∙ h.number name has;
+  many = omega (arith, h.many, k.many);
+}
 
--- the action of a line, by the number that its flag had before it was added
-pub tell-new : (names new : List (List ℕ)) (run_action : NamedRunAction) (flag bytes : List ℕ) (n : ℕ) → run_action ≡ run_actions.Tell flag → bytes ≡ flag → new ≡ with_flag names bytes → n ≡ flag_number names bytes → told n ≡ action_of new run_action
-unfolding action_of
-tell-new names new run_action flag bytes n is same named number = rw is (ap told (flag-new names new flag bytes n same named number))
+longer-by : (names : List (List ℕ)) (name : List ℕ) (b : Bool) → length names ≤ length (cond b names (names ++ name ∷ []))
+longer-by names name true = omega arith
+longer-by names name false = let e = length-append names (name ∷ []) in omega (arith, e)
 
-pub await-new : (names new : List (List ℕ)) (run_action : NamedRunAction) (flag bytes : List ℕ) (n : ℕ) → run_action ≡ run_actions.Await flag → bytes ≡ flag → new ≡ with_flag names bytes → n ≡ flag_number names bytes → awaited n ≡ action_of new run_action
-unfolding action_of
-await-new names new run_action flag bytes n is same named number = rw is (ap awaited (flag-new names new flag bytes n same named number))
+longer : (names : List (List ℕ)) (name : List ℕ) → length names ≤ length (with_flag names name)
+unfolding with_flag
+longer names name = longer-by names name (list_any (bytes_eq name) names)
 
-run_action-kept : (names : List (List ℕ)) (other : List ℕ) (line : NamedRunAction) → ((name : List ℕ) → flag_in line ≡ Some name → Has names name) → action_of (with_flag names other) line ≡ action_of names line
-unfolding action_of
-run_action-kept names other (run_actions.Do call) h = refl
-run_action-kept names other (run_actions.Tell flag) h = ap told (number-kept names other flag (h flag refl))
-run_action-kept names other (run_actions.Await flag) h = ap awaited (number-kept names other flag (h flag refl))
+one-kept : (names : List (List ℕ)) (name : List ℕ) → FlagsKept names (with_flag names name)
+one-kept names name = record { named = λ other h. has-more names name other h; number = λ other h. number-kept names name other h; many = longer names name }
 
-tasks-kept : (names : List (List ℕ)) (other : List ℕ) (named_tasks : List NamedRunTask) → All (Has names) (filter_map (λ o. flag_in o.run_action) named_tasks) → tasks_for (with_flag names other) named_tasks ≡ tasks_for names named_tasks
-tasks-kept names other [] h = refl
-tasks-kept names other (o ∷ named_tasks) h =
-    ap (λ (d : RunAction). let t : RunTask = record { line = o.line; dom = o.dom; run_action = d } in t ∷ tasks_for (with_flag names other) named_tasks) (run_action-kept names other o.run_action (first-named names (flag_in o.run_action) _ h))
-    ∙ ap (λ (ts : List RunTask). task_of names o ∷ ts) (tasks-kept names other named_tasks (rest-named names (flag_in o.run_action) _ h))
+-- the flag of a line keeps the numbers of those before it
+pub line-kept : (names : List (List ℕ)) (asks : BodyLine) → FlagsKept names (with_flag_of names asks)
+line-kept names (body_lines.Do call) = FlagsKept-refl names
+line-kept names (body_lines.Begin call) = FlagsKept-refl names
+line-kept names (body_lines.Tick most) = FlagsKept-refl names
+line-kept names (body_lines.Show gref) = FlagsKept-refl names
+line-kept names (body_lines.Tell flag) = one-kept names flag
+line-kept names (body_lines.Await flag) = one-kept names flag
 
-tasks-kept-of : (names : List (List ℕ)) (line : NamedRunAction) (named_tasks : List NamedRunTask) → All (Has names) (filter_map (λ o. flag_in o.run_action) named_tasks) → tasks_for (with_flag_of names line) named_tasks ≡ tasks_for names named_tasks
-tasks-kept-of names (run_actions.Do call) named_tasks h = refl
-tasks-kept-of names (run_actions.Tell flag) named_tasks h = tasks-kept names flag named_tasks h
-tasks-kept-of names (run_actions.Await flag) named_tasks h = tasks-kept names flag named_tasks h
+-- what a line is for `run`, by the names after it and after others
+pub action-kept : (names later : List (List ℕ)) (asks : BodyLine) → FlagsKept (with_flag_of names asks) later → run_action_in later asks ≡ run_action_in (with_flag_of names asks) asks
+unfolding run_action_in
+action-kept names later (body_lines.Do call) k = refl
+action-kept names later (body_lines.Begin call) k = refl
+action-kept names later (body_lines.Tick most) k = refl
+action-kept names later (body_lines.Show gref) k = refl
+action-kept names later (body_lines.Tell flag) k = ap (λ (n : ℕ). Some (run_actions.Tell n)) (k.number flag (has-new names flag))
+action-kept names later (body_lines.Await flag) k = ap (λ (n : ℕ). Some (run_actions.Await n)) (k.number flag (has-new names flag))
 
--- the names and tasks after one line more
-pub one-more : (named_tasks : List NamedRunTask) (o : NamedRunTask) (names new : List (List ℕ)) (tasks made : List RunTask) → names ≡ flag_names_of named_tasks → tasks ≡ tasks_for names named_tasks → new ≡ with_flag_of names o.run_action
-    → made ≡ tasks ++ task_of new o ∷ [] → (new ≡ flag_names_of (named_tasks ++ o ∷ [])) × (made ≡ tasks_for new (named_tasks ++ o ∷ []))
-one-more named_tasks o names new tasks made so_far were named is =
-    let have : All (Has names) (filter_map (λ x. flag_in x.run_action) named_tasks) =
-    subst (λ (l : List (List ℕ)). All (Has l) (filter_map (λ x. flag_in x.run_action) named_tasks)) (sym so_far) (has-all (filter_map (λ (x : NamedRunTask). flag_in x.run_action) named_tasks) []) in
-    let kept : tasks_for new named_tasks ≡ tasks_for names named_tasks = ap (λ (l : List (List ℕ)). tasks_for l named_tasks) named ∙ tasks-kept-of names o.run_action named_tasks have in (
-      named ∙ ap (λ (l : List (List ℕ)). with_flag_of l o.run_action) so_far ∙ sym (flags-more named_tasks o),
-      is ∙ ap (λ (ts : List RunTask). ts ++ task_of new o ∷ []) (were ∙ sym kept) ∙ sym (map-append (task_of new) named_tasks (o ∷ [])),
-    )
+-- its flag is one of the names after it
+pub action-below : (names : List (List ℕ)) (asks : BodyLine) (a : RunAction) → run_action_in (with_flag_of names asks) asks ≡ Some a → IsBelow (length (with_flag_of names asks)) a
+unfolding run_action_in
+action-below names (body_lines.Do call) a e = subst (IsBelow (length names)) (same_Some _ a e) tt
+action-below names (body_lines.Begin call) a e = absurd cc
+action-below names (body_lines.Tick most) a e = absurd cc
+action-below names (body_lines.Show gref) a e = absurd cc
+action-below names (body_lines.Tell flag) a e = subst (IsBelow (length (with_flag names flag))) (same_Some _ a e) (number-below (with_flag names flag) flag (has-new names flag))
+action-below names (body_lines.Await flag) a e = subst (IsBelow (length (with_flag names flag))) (same_Some _ a e) (number-below (with_flag names flag) flag (has-new names flag))
 
--- the tasks of a script name no flag past the last
-pub tasks-numbered : (named_tasks : List NamedRunTask) → AreNumbered (length (flag_names_of named_tasks)) (tasks_for (flag_names_of named_tasks) named_tasks)
-tasks-numbered named_tasks =
-    All-map (λ (t : RunTask). IsBelow (length (flag_names_of named_tasks)) t.run_action) (task_of (flag_names_of named_tasks)) named_tasks
-    (lines-below (flag_names_of named_tasks) named_tasks (has-all (filter_map (λ (o : NamedRunTask). flag_in o.run_action) named_tasks) []))
+-- whether a line is one for `run` does not depend on the names
+pub action-any : (names : List (List ℕ)) (asks : BodyLine) (a : RunAction) → run_action_in names asks ≡ Some a → is_some (run_action_in [] asks) ≡ true
+unfolding run_action_in
+action-any names (body_lines.Do call) a e = refl
+action-any names (body_lines.Begin call) a e = absurd cc
+action-any names (body_lines.Tick most) a e = absurd cc
+action-any names (body_lines.Show gref) a e = absurd cc
+action-any names (body_lines.Tell flag) a e = refl
+action-any names (body_lines.Await flag) a e = refl
 
--- each task is one of a domain that each order is of
-pub tasks-known : (P : DomId → Type 0) (names : List (List ℕ)) (named_tasks : List NamedRunTask) → All (λ (o : NamedRunTask). P o.dom) named_tasks → All (λ (t : RunTask). P t.dom) (tasks_for names named_tasks)
-tasks-known P names named_tasks h = All-map (λ (t : RunTask). P t.dom) (task_of names) named_tasks h
+-- a line for `play` has no flag
+pub play-flagless : (asks : BodyLine) (a : ScriptAction) → play_action_in asks ≡ Some a → flag_in asks ≡ None
+unfolding play_action_in
+play-flagless (body_lines.Do call) a e = refl
+play-flagless (body_lines.Begin call) a e = refl
+play-flagless (body_lines.Tick most) a e = refl
+play-flagless (body_lines.Show gref) a e = refl
+play-flagless (body_lines.Tell flag) a e = absurd cc
+play-flagless (body_lines.Await flag) a e = absurd cc
+
+below-more : (n m : ℕ) (a : RunAction) → n ≤ m → IsBelow n a → IsBelow m a
+below-more n m (run_actions.Do call) le h = tt
+below-more n m (run_actions.Tell flag) le h = omega (arith, le, h)
+below-more n m (run_actions.Await flag) le h = omega (arith, le, h)
+
+-- the flags of tasks are below a number, and so below each that is not less
+pub numbered-more : (n m : ℕ) (tasks : List RunTask) → n ≤ m → AreNumbered n tasks → AreNumbered m tasks
+numbered-more n m tasks le h = All-weaker (λ (t : RunTask). IsBelow n t.run_action) (λ (t : RunTask). IsBelow m t.run_action) (λ t k. below-more n m t.run_action le k) tasks h

@@ -9,6 +9,7 @@ use Rattle.std.proofs.Math.Seq.{take-append_seam, get_or-append_seam}
 use Rattle.std.proofs.lemmas.List.{append-nil, length-append, get_or_append_left, take-append-le}
 use Rattle.std.proofs.lemmas.List.Elements.{All-nil, All-cons, All-push, All-weaker}
 use Rattle.std.proofs.lemmas.List.Folds.{list_any-append}
+use Rattle.std.proofs.lemmas.List.Sums.{fold-append}
 use Rattle.std.proofs.lemmas.Option.{slice_get-get_or, slice_get_within, get_or_from_slice_get, same_Some}
 use Rattle.gt_types.specs.Config.{is_taken, domain_fault, AreFaultless}
 use Rattle.gt_types.specs.declared.DomId.{DomId}
@@ -24,11 +25,13 @@ use Rattle.gt_policy.specs.Allowing.{Allowed, type_named}
 use Rattle.gt_script.specs.Contents.{Contents, type_names_with}
 use Rattle.gt_script.specs.Script.{is_empty, is_misplaced, has_no_rights, or_config, or_mode, configured}
 use Rattle.gt_script.specs.Script.{domain_written, with_triple, type_named_in, with_domain, with_domain_line}
-use Rattle.gt_script.specs.Script.{with_named_task}
+use Rattle.gt_script.specs.Script.{with_task}
 use Rattle.gt_script.specs.Script.{with_asked}
 use Rattle.gt_script.specs.Script.{with_body_line, with_placed, with_script_line, with_words, with_lines}
-use Rattle.gt_script.specs.Laws.{lines_said, triple_in, wear_in, domain_in, step_for, step_on, named_task_for, named_task_on}
-use Rattle.gt_script.specs.Laws.{asks_for}
+use Rattle.gt_script.specs.Laws.{lines_said, triple_in, wear_in, domain_in, step_for, step_on, task_for, task_on}
+use Rattle.gt_script.specs.Laws.{asks_for, flag_on}
+use Rattle.gt_script.specs.Flags.{with_flags, with_flag, with_flag_of}
+use Rattle.gt_script.specs.Stuck.{AreNumbered, IsBelow}
 use Rattle.gt_script.specs.Laws.{is_for, IsLine}
 use Rattle.gt_script_lines.specs.declared.numbers.Number.{Number}
 use Rattle.gt_script.specs.declared.actions.ScriptAction.{ScriptAction}
@@ -39,12 +42,14 @@ use Rattle.gt_script_lines.specs.declared.lines.ScriptLine.TheVariants as script
 use Rattle.gt_script_lines.specs.declared.body.BodyLine.{BodyLine}
 use Rattle.gt_script.specs.declared.command.ScriptCommand.{ScriptCommand}
 use Rattle.gt_script.specs.declared.command.ScriptCommand.TheVariants.{Play, Run}
-use Rattle.gt_script.specs.Lists.{NamedRunTask, NamedRunAction}
+use Rattle.gt_script.specs.Lists.{RunTask}
 use Rattle.gt_script.specs.declared.script.ScriptStep.{ScriptStep}
 use Rattle.gt_script.specs.declared.faults.ScriptFaultKind.{ScriptFaultKind}
 use Rattle.gt_script.specs.declared.faults.ScriptFaultKind.TheVariants.{Syntax, Config}
 use Rattle.gt_script.specs.declared.faults.ScriptFault.{ScriptFault}
 use Rattle.gt_script.proofs.TypeLemmas.{Grown, Grown-refl, Grown-trans, with_type-Typed}
+use Rattle.gt_script.proofs.FlagLemmas.{FlagsKept, FlagsKept-refl, FlagsKept-trans, line-kept, action-kept, action-below}
+use Rattle.gt_script.proofs.FlagLemmas.{action-any, play-flagless, numbered-more}
 
 -- taking apart what gave a value
 
@@ -112,11 +117,14 @@ record Adds (n : ℕ) (l : Option ScriptLine) (c d : Contents) : Type 0 where
   domains : (types : List (List ℕ)) → Grown d.types types → d.domains ≡ c.domains ++ option_to_list (l >>= domain_in (type_names_with c.policy types))
   command : d.command ≡ c.command
   steps : d.steps ≡ c.steps ++ option_to_list (l >>= step_on c.command n)
-  named_tasks : d.named_tasks ≡ c.named_tasks ++ option_to_list (l >>= named_task_on c.command n)
+  flags : d.flags ≡ with_flags c.flags (option_to_list (l >>= flag_on))
+  kept : FlagsKept c.flags d.flags
+  tasks : (flags : List (List ℕ)) → FlagsKept d.flags flags → d.tasks ≡ c.tasks ++ option_to_list (l >>= task_on c.command flags n)
   suited : Suits c.command l
   faultless : AreFaultless c.domains → AreFaultless d.domains
   configured : All (λ (s : ScriptStep). IsTrue (is_taken c.domains s.dom)) c.steps → All (λ (s : ScriptStep). IsTrue (is_taken d.domains s.dom)) d.steps
-  ordered : All (λ (o : NamedRunTask). IsTrue (is_taken c.domains o.dom)) c.named_tasks → All (λ (o : NamedRunTask). IsTrue (is_taken d.domains o.dom)) d.named_tasks
+  ordered : All (λ (t : RunTask). IsTrue (is_taken c.domains t.dom)) c.tasks → All (λ (t : RunTask). IsTrue (is_taken d.domains t.dom)) d.tasks
+  numbered : AreNumbered (length c.flags) c.tasks → AreNumbered (length d.flags) d.tasks
 
 adds-nothing : (n : ℕ) (c : Contents) → Adds n None c c
 adds-nothing n c = record {
@@ -128,11 +136,14 @@ adds-nothing n c = record {
   domains = λ types g. sym (append-nil c.domains);
   command = refl;
   steps = sym (append-nil c.steps);
-  named_tasks = sym (append-nil c.named_tasks);
+  flags = refl;
+  kept = FlagsKept-refl c.flags;
+  tasks = λ flags k. sym (append-nil c.tasks);
   suited = tt;
   faultless = λ h. h;
   configured = λ h. h;
   ordered = λ h. h;
+  numbered = λ h. h;
 }
 
 bind-at : {A B : Type 0} (o : Option A) (x : A) (f : A → Option B) → o ≡ Some x → (o >>= f) ≡ f x
@@ -156,11 +167,14 @@ adds-triple-of n c d t source target free s r same =
       domains = λ types g. sym (append-nil c.domains);
       command = refl;
       steps = sym (append-nil c.steps);
-      named_tasks = sym (append-nil c.named_tasks);
+      flags = refl;
+      kept = FlagsKept-refl c.flags;
+      tasks = λ flags k. sym (append-nil c.tasks);
       suited = refl;
       faultless = λ h. h;
       configured = λ h. h;
       ordered = λ h. h;
+      numbered = λ h. h;
     })
 
 adds-triple : (n : ℕ) (c d : Contents) (t : TripleLine) → c.policy ≡ None → with_triple c t ≡ Ok d → Adds n (Some (script_lines.Triple t)) c d
@@ -200,11 +214,14 @@ adds-domain-of n c d l label domain t w fine same =
           ap (λ (o : Option DomainConfig). c.domains ++ option_to_list o) (sym lines_said);
       command = refl;
       steps = sym (append-nil c.steps);
-      named_tasks = sym (append-nil c.named_tasks);
+      flags = refl;
+      kept = FlagsKept-refl c.flags;
+      tasks = λ flags k. sym (append-nil c.tasks);
       suited = refl;
       faultless = λ h. faultless-push c.domains domain h (none-is _ fine);
       configured = λ h. All-weaker _ _ (λ s k. taken-push c.domains domain s.dom k) c.steps h;
-      ordered = λ h. All-weaker _ _ (λ o k. taken-push c.domains domain o.dom k) c.named_tasks h;
+      ordered = λ h. All-weaker _ _ (λ t k. taken-push c.domains domain t.dom k) c.tasks h;
+      numbered = λ h. h;
     })
 
 adds-domain : (n : ℕ) (c d : Contents) (l : DomainLine) → with_domain c l ≡ Ok d → Adds n (Some (script_lines.Domain l)) c d
@@ -240,19 +257,22 @@ adds-step n c d number asks dom play small taken e =
           let lines_said : step_on c.command n (script_lines.Body number asks) ≡ Some (record { line = n; dom = dom; action = p.0 }) =
           ap (λ (k : ScriptCommand). step_for k n number asks) play ∙ bind-at _ _ _ small ∙ bind-at _ _ _ p.1 in
           ap (λ (o : Option ScriptStep). c.steps ++ option_to_list o) (sym lines_said);
-      named_tasks =
-          let lines_said : named_task_on c.command n (script_lines.Body number asks) ≡ None = ap (λ (k : ScriptCommand). named_task_for k n number asks) play in
-          sym (append-nil c.named_tasks) ∙ ap (λ (o : Option NamedRunTask). c.named_tasks ++ option_to_list o) (sym lines_said);
+      flags = ap (λ (o : Option (List ℕ)). with_flags c.flags (option_to_list o)) (sym (play-flagless asks p.0 p.1));
+      kept = FlagsKept-refl c.flags;
+      tasks = λ flags k.
+          let lines_said : task_on c.command flags n (script_lines.Body number asks) ≡ None = ap (λ (k : ScriptCommand). task_for k flags n number asks) play in
+          sym (append-nil c.tasks) ∙ ap (λ (o : Option RunTask). c.tasks ++ option_to_list o) (sym lines_said);
       suited = ap (λ (k : ScriptCommand). asks_for k asks) play ∙ ap (λ (o : Option ScriptAction). is_some o) p.1;
       faultless = λ h. h;
       configured = λ h. All-push (λ (s : ScriptStep). IsTrue (is_taken c.domains s.dom)) c.steps _ h taken;
       ordered = λ h. h;
+      numbered = λ h. h;
     })
 
-adds-named_task : (n : ℕ) (c d : Contents) (number : Number) (asks : BodyLine) (dom : DomId) → c.command ≡ Run → number_below (2 ^ 16) number ≡ Some dom.0 → is_taken c.domains dom ≡ true
-    → with_named_task c n dom asks ≡ Ok d → Adds n (Some (script_lines.Body number asks)) c d
-unfolding with_named_task
-adds-named_task n c d number asks dom run small taken e =
+adds-task : (n : ℕ) (c d : Contents) (number : Number) (asks : BodyLine) (dom : DomId) → c.command ≡ Run → number_below (2 ^ 16) number ≡ Some dom.0 → is_taken c.domains dom ≡ true
+    → with_task c n dom asks ≡ Ok d → Adds n (Some (script_lines.Body number asks)) c d
+unfolding with_task
+adds-task n c d number asks dom run small taken e =
     let p = bind-Some _ _ d (or_mode-Ok _ d e) in
     subst (λ (x : Contents). Adds n (Some (script_lines.Body number asks)) c x) (same_Some _ _ p.2) (record {
       policy = refl;
@@ -265,20 +285,26 @@ adds-named_task n c d number asks dom run small taken e =
       steps =
           let lines_said : step_on c.command n (script_lines.Body number asks) ≡ None = ap (λ (k : ScriptCommand). step_for k n number asks) run in
           sym (append-nil c.steps) ∙ ap (λ (o : Option ScriptStep). c.steps ++ option_to_list o) (sym lines_said);
-      named_tasks =
-          let lines_said : named_task_on c.command n (script_lines.Body number asks) ≡ Some (record { line = n; dom = dom; run_action = p.0 }) =
-          ap (λ (k : ScriptCommand). named_task_for k n number asks) run ∙ bind-at _ _ _ small ∙ bind-at _ _ _ p.1 in
-          ap (λ (o : Option NamedRunTask). c.named_tasks ++ option_to_list o) (sym lines_said);
-      suited = ap (λ (k : ScriptCommand). asks_for k asks) run ∙ ap (λ (o : Option NamedRunAction). is_some o) p.1;
+      flags = refl;
+      kept = line-kept c.flags asks;
+      tasks = λ flags k.
+          let lines_said : task_on c.command flags n (script_lines.Body number asks) ≡ Some (record { line = n; dom = dom; run_action = p.0 }) =
+          ap (λ (k : ScriptCommand). task_for k flags n number asks) run ∙ bind-at _ _ _ small ∙ bind-at _ _ _ (action-kept c.flags flags asks k ∙ p.1) in
+          ap (λ (o : Option RunTask). c.tasks ++ option_to_list o) (sym lines_said);
+      suited = ap (λ (k : ScriptCommand). asks_for k asks) run ∙ action-any (with_flag_of c.flags asks) asks p.0 p.1;
       faultless = λ h. h;
       configured = λ h. h;
-      ordered = λ h. All-push (λ (o : NamedRunTask). IsTrue (is_taken c.domains o.dom)) c.named_tasks _ h taken;
+      ordered = λ h. All-push (λ (t : RunTask). IsTrue (is_taken c.domains t.dom)) c.tasks _ h taken;
+      numbered = λ h.
+          let count = length (with_flag_of c.flags asks) in
+          All-push (λ (t : RunTask). IsBelow count t.run_action) c.tasks _ (numbered-more (length c.flags) count c.tasks (line-kept c.flags asks).many h)
+          (action-below c.flags asks p.0 p.1);
     })
 
 adds-asked : (n : ℕ) (c d : Contents) (number : Number) (asks : BodyLine) (dom : DomId) (command : ScriptCommand) → c.command ≡ command → number_below (2 ^ 16) number ≡ Some dom.0
     → is_taken c.domains dom ≡ true → with_asked command c n dom asks ≡ Ok d → Adds n (Some (script_lines.Body number asks)) c d
 adds-asked n c d number asks dom Play is small taken e = adds-step n c d number asks dom is small taken e
-adds-asked n c d number asks dom Run is small taken e = adds-named_task n c d number asks dom is small taken e
+adds-asked n c d number asks dom Run is small taken e = adds-task n c d number asks dom is small taken e
 
 adds-known : (n : ℕ) (c d : Contents) (number : Number) (asks : BodyLine) (known : Option DomId) → configured c.domains number ≡ known
     → (let r : Result Contents ScriptFaultKind = elim known [ None ↦ Err Config | Some dom ↦ with_asked c.command c n dom asks ] in r ≡ Ok d) → Adds n (Some (script_lines.Body number asks)) c d
@@ -317,11 +343,14 @@ adds-wear n c d first fresh same =
       domains = λ types g. sym (append-nil c.domains);
       command = refl;
       steps = sym (append-nil c.steps);
-      named_tasks = sym (append-nil c.named_tasks);
+      flags = refl;
+      kept = FlagsKept-refl c.flags;
+      tasks = λ flags k. sym (append-nil c.tasks);
       suited = refl;
       faultless = λ h. h;
       configured = λ h. h;
       ordered = λ h. h;
+      numbered = λ h. h;
     })
 
 adds-placed : (n : ℕ) (c d : Contents) (l : ScriptLine) → is_misplaced c l ≡ false → with_placed c n l ≡ Ok d → Adds n (Some l) c d
@@ -366,11 +395,14 @@ pub record Extends (n : ℕ) (ls : List (List ℕ)) (c d : Contents) : Type 0 wh
   pub domains : (types : List (List ℕ)) → Grown d.types types → d.domains ≡ c.domains ++ filter_map (λ l. domain_in (type_names_with c.policy types) l.1) (lines_said n ls)
   pub command : d.command ≡ c.command
   pub steps : d.steps ≡ c.steps ++ filter_map (λ l. step_on c.command l.0 l.1) (lines_said n ls)
-  pub named_tasks : d.named_tasks ≡ c.named_tasks ++ filter_map (λ l. named_task_on c.command l.0 l.1) (lines_said n ls)
+  pub flags : d.flags ≡ with_flags c.flags (filter_map (λ l. flag_on l.1) (lines_said n ls))
+  pub kept : FlagsKept c.flags d.flags
+  pub tasks : (flags : List (List ℕ)) → FlagsKept d.flags flags → d.tasks ≡ c.tasks ++ filter_map (λ l. task_on c.command flags l.0 l.1) (lines_said n ls)
   pub suited : All (λ l. IsTrue (is_for c.command l.1)) (lines_said n ls)
   pub faultless : AreFaultless c.domains → AreFaultless d.domains
   pub configured : All (λ (s : ScriptStep). IsTrue (is_taken c.domains s.dom)) c.steps → All (λ (s : ScriptStep). IsTrue (is_taken d.domains s.dom)) d.steps
-  pub ordered : All (λ (o : NamedRunTask). IsTrue (is_taken c.domains o.dom)) c.named_tasks → All (λ (o : NamedRunTask). IsTrue (is_taken d.domains o.dom)) d.named_tasks
+  pub ordered : All (λ (t : RunTask). IsTrue (is_taken c.domains t.dom)) c.tasks → All (λ (t : RunTask). IsTrue (is_taken d.domains t.dom)) d.tasks
+  pub numbered : AreNumbered (length c.flags) c.tasks → AreNumbered (length d.flags) d.tasks
 
 cons-list : {X : Type 0} (o : Option X) (xs : List X) → cons_option o xs ≡ option_to_list o ++ xs
 cons-list None xs = refl
@@ -407,12 +439,18 @@ extends-cons n l ls c d e a x =
       command = x.command ∙ here.command;
       steps = joined c.steps d.steps e.steps _ _ here.steps (subst (λ (k : ScriptCommand). e.steps ≡ d.steps ++ filter_map (λ l. step_on k l.0 l.1) (lines_said (n + 1) ls)) here.command x.steps)
           ∙ ap (λ (ss : List ScriptStep). c.steps ++ ss) (sym (filter-cons (step_on c.command) n (line_of (words l)) (lines_said (n + 1) ls)));
-      named_tasks = joined c.named_tasks d.named_tasks e.named_tasks _ _ here.named_tasks (subst (λ (k : ScriptCommand). e.named_tasks ≡ d.named_tasks ++ filter_map (λ l. named_task_on k l.0 l.1) (lines_said (n + 1) ls)) here.command x.named_tasks)
-          ∙ ap (λ (os : List NamedRunTask). c.named_tasks ++ os) (sym (filter-cons (named_task_on c.command) n (line_of (words l)) (lines_said (n + 1) ls)));
+      flags = x.flags ∙ ap (λ (f : List (List ℕ)). with_flags f (filter_map (λ l. flag_on l.1) (lines_said (n + 1) ls))) here.flags
+          ∙ sym (fold-append with_flag c.flags (option_to_list (line_of (words l) >>= flag_on)) (filter_map (λ l. flag_on l.1) (lines_said (n + 1) ls)))
+          ∙ ap (with_flags c.flags) (sym (filter-cons (λ _ y. flag_on y) n (line_of (words l)) (lines_said (n + 1) ls)));
+      kept = FlagsKept-trans c.flags d.flags e.flags here.kept x.kept;
+      tasks = λ flags k. joined c.tasks d.tasks e.tasks _ _ (here.tasks flags (FlagsKept-trans _ _ _ x.kept k))
+          (subst (λ (k : ScriptCommand). e.tasks ≡ d.tasks ++ filter_map (λ l. task_on k flags l.0 l.1) (lines_said (n + 1) ls)) here.command (x.tasks flags k))
+          ∙ ap (λ (ts : List RunTask). c.tasks ++ ts) (sym (filter-cons (task_on c.command flags) n (line_of (words l)) (lines_said (n + 1) ls)));
       suited = suits-cons c.command n (line_of (words l)) (lines_said (n + 1) ls) here.suited (subst (λ (k : ScriptCommand). All (λ l. IsTrue (is_for k l.1)) (lines_said (n + 1) ls)) here.command x.suited);
       faultless = λ h. x.faultless (here.faultless h);
       configured = λ h. x.configured (here.configured h);
       ordered = λ h. x.ordered (here.ordered h);
+      numbered = λ h. x.numbered (here.numbered h);
     }
 
 extends-line : (n : ℕ) (l : List ℕ) (ls : List (List ℕ)) (c e : Contents) (r : Result Contents ScriptFaultKind) → with_words c n (words l) ≡ r
@@ -434,10 +472,13 @@ with_lines-Extends n [] c e h =
       domains = λ types g. sym (append-nil c.domains);
       command = refl;
       steps = sym (append-nil c.steps);
-      named_tasks = sym (append-nil c.named_tasks);
+      flags = refl;
+      kept = FlagsKept-refl c.flags;
+      tasks = λ flags k. sym (append-nil c.tasks);
       suited = All-nil (λ l. IsTrue (is_for c.command l.1));
       faultless = λ k. k;
       configured = λ k. k;
       ordered = λ k. k;
+      numbered = λ k. k;
     })
 with_lines-Extends n (l ∷ ls) c e h = extends-line n l ls c e (with_words c n (words l)) refl (λ d. with_lines-Extends (n + 1) ls d e) h

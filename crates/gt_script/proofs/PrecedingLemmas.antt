@@ -1,11 +1,11 @@
 -- The flags of a script with one flag more.
-use Rattle.std.proofs.Common.{◌≡◌, ℕ, ◌+◌, ◌==◌, Bool, true, false, List, [], ◌∷◌, All, arith, cond, subst, sym}
+use Rattle.std.proofs.Common.{◌≡◌, ℕ, ◌+◌, ◌==◌, Bool, true, false, List, [], ◌∷◌, arith, cond, subst, sym}
 use Rattle.std.proofs.lemmas.List.Elements.{All-nil, All-cons, All-append, All-head, All-tail}
 use Rattle.gt_script.specs.Lists.{RunAction, RunTask}
 use Rattle.gt_script.specs.Preceding.{around, beside_call, is_call, with_precedence}
 use Rattle.gt_script.specs.Stuck.{IsBelow, AreNumbered}
 use Rattle.gt_script.specs.declared.precedence.Precedence.{Precedence}
-use Rattle.gt_script.specs.declared.tasks.RunActionBy.TheVariants as run_actions
+use Rattle.gt_script.specs.declared.tasks.RunAction.TheVariants as run_actions
 
 below-next : (n : ℕ) (a : RunAction) → IsBelow n a → IsBelow (n + 1) a
 below-next n (run_actions.Do call) h = tt

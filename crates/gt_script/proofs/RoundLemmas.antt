@@ -24,7 +24,7 @@ use Rattle.gt_script.specs.Rounds.{flag_holds, HasFlag, Within, is_unraised, unr
 use Rattle.gt_script.specs.Rounds.{is_new}
 use Rattle.gt_script.specs.Rounds.{Comes, WayTo, WaitsFor, TurnGoesOn, HaveCome, Turning, WaitsOrEnds}
 use Rattle.gt_script.specs.Lists.{RunAction, RunTask}
-use Rattle.gt_script.specs.declared.tasks.RunActionBy.TheVariants.{Do, Tell, Await}
+use Rattle.gt_script.specs.declared.tasks.RunAction.TheVariants.{Do, Tell, Await}
 
 -- a place further on
 

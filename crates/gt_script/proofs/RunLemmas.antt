@@ -7,45 +7,18 @@ use Rattle.std.proofs.lemmas.List.Elements.{filter-append}
 use Rattle.gt_types.specs.Config.{is_taken}
 use Rattle.gt_types.specs.declared.DomId.{DomId}
 use Rattle.gt_types.specs.declared.config.DomainConfig.{DomainConfig}
-use Rattle.gt_script.specs.Contents.{Contents, contents_of, without_orders}
-use Rattle.gt_script.specs.Flags.{flag_names_of}
+use Rattle.gt_script.specs.Contents.{Contents, contents_of, head_in}
 use Rattle.gt_script.specs.Laws.{IsScriptFor}
 use Rattle.gt_script.specs.Outcomes.{AnswersScript}
 use Rattle.gt_script.specs.RunContents.{RunContents}
-use Rattle.gt_script.specs.RunScripts.{CanConfigure, ComeToEnd, list_of, ContentsReadAs, ReadsAsRun, RunAnswers}
+use Rattle.gt_script.specs.RunScripts.{CanConfigure, list_of, ContentsReadAs, ReadsAsRun, RunAnswers}
 use Rattle.gt_script.specs.Script.{Wrong, ReadsFor}
 use Rattle.gt_script.specs.Stuck.{AreNumbered}
-use Rattle.gt_script.specs.Tasks.{tasks_numbered, tasks_of}
 use Rattle.gt_script.specs.declared.command.ScriptCommand.TheVariants.{Run}
 use Rattle.gt_script.specs.declared.faults.ScriptError.{ScriptError}
 use Rattle.gt_script.specs.declared.faults.ScriptError.TheVariants as script_errors
-use Rattle.gt_script.specs.Lists.{NamedRunTask, RunTask}
+use Rattle.gt_script.specs.Lists.{RunTask}
 use Rattle.gt_script.specs.declared.run_script.RunScript.{RunScript}
-use Rattle.gt_script.proofs.FlagLemmas.{tasks-numbered, tasks-known}
-
--- the numbers of the flags of these tasks are below their count
-pub numbered : (named_tasks : List NamedRunTask) (count : ℕ) (tasks : List RunTask) → count ≡ length (flag_names_of named_tasks) → tasks ≡ tasks_numbered named_tasks → AreNumbered count tasks
-numbered named_tasks count tasks many is =
-    subst (λ (n : ℕ). AreNumbered n tasks) (sym many) (subst (λ (ts : List RunTask). AreNumbered (length (flag_names_of named_tasks)) ts) (sym is) (tasks-numbered named_tasks))
-
--- their domains are those of the lines
-pub known : (named_tasks : List NamedRunTask) (domains : List DomainConfig) (tasks : List RunTask) → tasks ≡ tasks_numbered named_tasks → All (λ (o : NamedRunTask). IsTrue (is_taken domains o.dom)) named_tasks
-    → All (λ (t : RunTask). IsTrue (is_taken domains t.dom)) tasks
-known named_tasks domains tasks is h =
-    subst (λ (ts : List RunTask). All (λ (t : RunTask). IsTrue (is_taken domains t.dom)) ts) (sym is) (tasks-known (λ dom. IsTrue (is_taken domains dom)) (flag_names_of named_tasks) named_tasks h)
-
--- what contents say whose lines are these
-
-ends-in : (c : Contents) (named_tasks : List NamedRunTask) (domains : List DomainConfig) → named_tasks ≡ c.named_tasks → domains ≡ c.domains → ComeToEnd (tasks_numbered named_tasks) domains → ComeToEnd (tasks_of c) c.domains
-ends-in c named_tasks domains same set h =
-    subst (λ (ds : List DomainConfig). ComeToEnd (tasks_of c) ds) set (subst (λ (os : List NamedRunTask). ComeToEnd (tasks_numbered os) domains) same h)
-
-pub says-run : (c head : Contents) (named_tasks : List NamedRunTask) (domains : List DomainConfig) (tasks : List RunTask) (flags : ℕ) → named_tasks ≡ c.named_tasks → head ≡ without_orders c → domains ≡ head.domains
-    → tasks ≡ tasks_numbered named_tasks → flags ≡ length (flag_names_of named_tasks) → ComeToEnd (tasks_numbered named_tasks) domains → ContentsReadAs c (Ok (record { head = head; tasks = tasks; flags = flags }))
-says-run c head named_tasks domains tasks flags same front set made many h =
-    let made_in : tasks ≡ tasks_of c = made ∙ ap (λ (os : List NamedRunTask). tasks_numbered os) same in
-    let many_in : flags ≡ length (flag_names_of c.named_tasks) = many ∙ ap (λ (os : List NamedRunTask). length (flag_names_of os)) same in
-    (ends-in c named_tasks domains same (set ∙ ap (λ (k : Contents). k.domains) front) h, rw (made_in, front, many_in) refl)
 
 -- what the bytes tell
 
@@ -73,18 +46,28 @@ can-configure lines c (inr s) = (s.parts.faultless, s.parts.some_domain, s.parts
 
 pub head-configures : (lines : List (List ℕ)) (c : Contents) (r : Result RunScript ScriptError) → IsScriptFor Run lines c → RunAnswers r (ContentsReadAs c) → IfOk r (λ s. CanConfigure (contents_of s.head))
 head-configures lines c (Ok s) of h =
-    let head : contents_of s.head ≡ without_orders c = ap (λ (k : RunContents). k.head) h.1 in
+    let head : contents_of s.head ≡ head_in c = ap (λ (k : RunContents). k.head) h.1 in
     subst (λ (k : Contents). CanConfigure k) (sym head) (can-configure lines c of)
 head-configures lines c (Err e) of h = tt
 
-pub ordered : (lines : List (List ℕ)) (c : Contents) → IsScriptFor Run lines c → All (λ (o : NamedRunTask). IsTrue (is_taken c.domains o.dom)) c.named_tasks
-ordered lines c (inl s) = s.parts.ordered
-ordered lines c (inr s) = s.parts.ordered
+-- the tasks of a script are those of its domains
+pub tasks-known : (lines : List (List ℕ)) (c : Contents) → IsScriptFor Run lines c → All (λ (t : RunTask). IsTrue (is_taken c.domains t.dom)) c.tasks
+tasks-known lines c (inl s) = s.parts.ordered
+tasks-known lines c (inr s) = s.parts.ordered
 
--- each flag that a task of a script for `run` names is one of the script's
-pub flags-numbered : (c : Contents) (r : Result RunScript ScriptError) → RunAnswers r (ContentsReadAs c) → IfOk r (λ s. AreNumbered s.flags s.tasks)
-flags-numbered c (Ok s) h = numbered c.named_tasks s.flags s.tasks (ap (λ (k : RunContents). k.flags) h.1) (ap (λ (k : RunContents). k.tasks) h.1)
-flags-numbered c (Err e) h = tt
+pub known-in : (domains ds : List DomainConfig) (tasks ts : List RunTask) → domains ≡ ds → tasks ≡ ts → All (λ (t : RunTask). IsTrue (is_taken ds t.dom)) ts → All (λ (t : RunTask). IsTrue (is_taken domains t.dom)) tasks
+known-in domains ds tasks ts d t h =
+    subst (λ (xs : List DomainConfig). All (λ (t : RunTask). IsTrue (is_taken xs t.dom)) tasks) (sym d) (subst (λ (xs : List RunTask). All (λ (t : RunTask). IsTrue (is_taken ds t.dom)) xs) (sym t) h)
+
+-- each flag that a task of a script names is one of the script's
+pub tasks-numbered : (lines : List (List ℕ)) (c : Contents) → IsScriptFor Run lines c → AreNumbered (length c.flags) c.tasks
+tasks-numbered lines c (inl s) = s.parts.numbered
+tasks-numbered lines c (inr s) = s.parts.numbered
+
+-- the same of the script for `run`
+pub flags-numbered : (lines : List (List ℕ)) (c : Contents) (r : Result RunScript ScriptError) → IsScriptFor Run lines c → RunAnswers r (ContentsReadAs c) → IfOk r (λ s. AreNumbered s.flags s.tasks)
+flags-numbered lines c (Ok s) of h = subst (λ (k : RunContents). AreNumbered k.flags k.tasks) (sym h.1) (tasks-numbered lines c of)
+flags-numbered lines c (Err e) of h = tt
 
 -- the list of a domain after one task more
 

@@ -1,8 +1,8 @@
 -- Bytes tell one thing as a script for `run`.
-use Rattle.std.proofs.Common.{◌≡◌, ◌⊎◌, length-take, inl, inr, ℕ, ◌<◌, List, length, take, Option, Some, Result, Ok, Err}
-use Rattle.std.proofs.Common.{refl, sym, ap, ◌∙◌, subst, arith, All, get_or}
+use Rattle.std.proofs.Common.{◌≡◌, length-take, inl, inr, ℕ, ◌<◌, List, length, take, Some, Result, Ok, Err}
+use Rattle.std.proofs.Common.{sym, ap, ◌∙◌, subst, arith, get_or}
 use Rattle.std.specs.List.{slice_get}
-use Rattle.std.proofs.lemmas.Bool.{cases_eq, cases_lt}
+use Rattle.std.proofs.lemmas.Bool.{cases_lt}
 use Rattle.std.proofs.lemmas.List.{get_or-take}
 use Rattle.std.proofs.lemmas.Option.{slice_get_within, get_or_from_slice_get}
 use Rattle.gt_types.specs.declared.DomId.{DomId}
@@ -10,15 +10,13 @@ use Rattle.gt_types.specs.declared.config.DomainConfig.{DomainConfig}
 use Rattle.gt_script.specs.Contents.{Contents}
 use Rattle.gt_script.specs.Lists.{RunAction, RunTask}
 use Rattle.gt_script.specs.RunContents.{RunContents}
-use Rattle.gt_script.specs.RunScripts.{ContentsReadAs, ReadsAsRun, run_of}
-use Rattle.gt_script.specs.Script.{Wrong, in_script, in_policy, ReadsFor}
+use Rattle.gt_script.specs.RunScripts.{ContentsReadAs, ReadsAsRun}
+use Rattle.gt_script.specs.Script.{Wrong, in_script, in_policy}
 use Rattle.gt_script.specs.Stuck.{AllEnd, CanEnd, IsPassed, IsRaisable, IsStuckAt, PassesAll, WaitsAt}
-use Rattle.gt_script.specs.Tasks.{tasks_of}
 use Rattle.gt_script.specs.declared.command.ScriptCommand.TheVariants.{Run}
 use Rattle.gt_script.specs.declared.faults.ScriptFault.{ScriptFault}
-use Rattle.gt_script.specs.declared.faults.ScriptFaultKind.{ScriptFaultKind}
 use Rattle.gt_script.specs.declared.faults.ScriptFaultKind.TheVariants.{Stuck}
-use Rattle.gt_script.specs.declared.tasks.RunActionBy.TheVariants.{Await}
+use Rattle.gt_script.specs.declared.tasks.RunAction.TheVariants.{Await}
 use Rattle.gt_script.proofs.OneLemmas.{OneMeaning, tells_one}
 
 module _ (Told : ℕ → Type 0) (tasks : List RunTask) where
@@ -98,13 +96,13 @@ same-fault f g line kind other = λ i. record { line = line i; kind = (kind ∙ 
 contents-one : (c : Contents) (x y : Result RunContents Wrong) → ContentsReadAs c x → ContentsReadAs c y → x ≡ y
 contents-one c (Ok a) (Ok b) (ends, is) (also, other) = ap (λ (r : RunContents). Ok r) (is ∙ sym other)
 contents-one c (Ok a) (Err (in_script f)) (ends, is) (stuck, kind) =
-    absurd (stuck-not (IsRaisable (tasks_of c)) (tasks_of c) c.domains f.line ends stuck)
+    absurd (stuck-not (IsRaisable c.tasks) c.tasks c.domains f.line ends stuck)
 contents-one c (Ok a) (Err (in_policy g)) x y = absurd y
 contents-one c (Err (in_script f)) (Ok a) (stuck, kind) (ends, is) =
-    absurd (stuck-not (IsRaisable (tasks_of c)) (tasks_of c) c.domains f.line ends stuck)
+    absurd (stuck-not (IsRaisable c.tasks) c.tasks c.domains f.line ends stuck)
 contents-one c (Err (in_script f)) (Err (in_script g)) (stuck, kind) (also, other) =
     ap (λ (k : ScriptFault). Err (in_script k))
-    (same-fault f g (stuck-once (IsRaisable (tasks_of c)) (tasks_of c) c.domains f.line g.line stuck also) kind other)
+    (same-fault f g (stuck-once (IsRaisable c.tasks) c.tasks c.domains f.line g.line stuck also) kind other)
 contents-one c (Err (in_script f)) (Err (in_policy g)) x y = absurd y
 contents-one c (Err (in_policy g)) y a b = absurd a
 

@@ -4,12 +4,14 @@ use Rattle.std.specs.Prelude.{Option, Some, None, Ok, Err, IsSome, IsTrue, All, 
 use Rattle.gt_script.specs.Prelude.{option_map, option_to_list, is_some, filter_map, enumerate_from, IsUtf8}
 use Rattle.gt_script.specs.Prelude.{utf8_valid_len, line_after, is_taken, AreFaultless, LAST_GENERATION, LONGEST_TEXT}
 use Rattle.gt_script.specs.Prelude.{Triple, DomainConfig, Allowed, type_named, words, number_below, ◌>>=◌, line_of}
-use Rattle.gt_script.specs.Prelude.{ScriptLine, Number, BodyLine, ScriptCommand, Play, Run, NamedRunTask, ScriptStep}
+use Rattle.gt_script.specs.Prelude.{ScriptLine, Number, BodyLine, ScriptCommand, Play, Run, RunTask, ScriptStep}
 use Rattle.gt_script.specs.Prelude.{ScriptFault, Limit, Utf8, Syntax, Config, ScriptError, Memory}
 use Rattle.std.specs.Str.Lines.{lines as lines_in}
 use Rattle.gt_policy.specs.declared.fault.TokenFault as policy
 use Rattle.gt_script.specs.Blocks.{BlockMeans, IsFaultyBlock, block_fault_shown}
 use Rattle.gt_script.specs.Contents.{Contents, empty, with_policy, type_names, first_gen}
+use Rattle.gt_script.specs.Flags.{flag_in, with_flags}
+use Rattle.gt_script.specs.Stuck.{AreNumbered}
 use Rattle.gt_script.specs.Script.{domain_written, play_action_in, run_action_in, with_words, with_lines}
 use Rattle.gt_script_lines.specs.declared.lines.ScriptLine.TheVariants as script_lines
 use Rattle.gt_script.specs.declared.faults.ScriptError.TheVariants as script_errors
@@ -52,12 +54,12 @@ step_for Play n number asks = do
   Some (record { line = n; dom = record { 0 = id }; action = action })
 step_for Run n number asks = None
 
--- the task of line n in a script for this command, if it is one
-abbrev pub named_task_for : ScriptCommand → ℕ → Number → BodyLine → Option NamedRunTask
-named_task_for Play n number asks = None
-named_task_for Run n number asks = do
+-- the task of line n in a script for this command, if it is one; its flag has its number among these
+abbrev pub task_for : ScriptCommand → List (List ℕ) → ℕ → Number → BodyLine → Option RunTask
+task_for Play flags n number asks = None
+task_for Run flags n number asks = do
   id ← number_below (2 ^ 16) number
-  action ← run_action_in asks
+  action ← run_action_in flags asks
   Some (record { line = n; dom = record { 0 = id }; run_action = action })
 
 -- the step of line n, if it is a line of the body of a script for `play`
@@ -68,16 +70,23 @@ step_on command n (script_lines.Domain d) = None
 step_on command n (script_lines.Body number asks) = step_for command n number asks
 
 -- the task of line n, if it is a line of the body of a script for `run`
-abbrev pub named_task_on : ScriptCommand → ℕ → ScriptLine → Option NamedRunTask
-named_task_on command n (script_lines.Triple t) = None
-named_task_on command n (script_lines.Wear first) = None
-named_task_on command n (script_lines.Domain d) = None
-named_task_on command n (script_lines.Body number asks) = named_task_for command n number asks
+abbrev pub task_on : ScriptCommand → List (List ℕ) → ℕ → ScriptLine → Option RunTask
+task_on command flags n (script_lines.Triple t) = None
+task_on command flags n (script_lines.Wear first) = None
+task_on command flags n (script_lines.Domain d) = None
+task_on command flags n (script_lines.Body number asks) = task_for command flags n number asks
+
+-- the flag that a line raises or awaits, if it does
+abbrev pub flag_on : ScriptLine → Option (List ℕ)
+flag_on (script_lines.Triple t) = None
+flag_on (script_lines.Wear first) = None
+flag_on (script_lines.Domain d) = None
+flag_on (script_lines.Body number asks) = flag_in asks
 
 -- a line of the body is for this command
 abbrev pub asks_for : ScriptCommand → BodyLine → Bool
 asks_for Play asks = is_some (play_action_in asks)
-asks_for Run asks = is_some (run_action_in asks)
+asks_for Run asks = is_some (run_action_in [] asks)
 
 -- a line is for this command: each but those of the body that are for the other one
 abbrev pub is_for : ScriptCommand → ScriptLine → Bool
@@ -91,19 +100,21 @@ abbrev pub IsLine : List ℕ → Type 0
 IsLine line = (words line ≡ []) ⊎ IsSome (line_of (words line))
 
 -- The lines, numbered from n, are those of a script: each part holds what they give for it,
--- in order; so at most one of them is a line `wear`.
+-- in order; so at most one of them is a line `wear`. Flags are numbered as they first appear.
 pub record GiveParts (n : ℕ) (lines : List (List ℕ)) (c : Contents) : Type 0 where
   pub readable : All IsLine lines
   pub triples : c.triples ≡ filter_map (λ l. triple_in c.types l.1) (lines_said n lines)
   pub wear : option_to_list c.wear ≡ filter_map (λ l. wear_in l.1) (lines_said n lines)
   pub domains : c.domains ≡ filter_map (λ l. domain_in (type_names c) l.1) (lines_said n lines)
   pub steps : c.steps ≡ filter_map (λ l. step_on c.command l.0 l.1) (lines_said n lines)
-  pub named_tasks : c.named_tasks ≡ filter_map (λ l. named_task_on c.command l.0 l.1) (lines_said n lines)
+  pub flags : c.flags ≡ with_flags [] (filter_map (λ l. flag_on l.1) (lines_said n lines))
+  pub tasks : c.tasks ≡ filter_map (λ l. task_on c.command c.flags l.0 l.1) (lines_said n lines)
   pub suited : All (λ l. IsTrue (is_for c.command l.1)) (lines_said n lines)
   pub faultless : AreFaultless c.domains
   pub generation : first_gen c ≤ LAST_GENERATION
   pub configured : All (λ s. IsTrue (is_taken c.domains s.dom)) c.steps
-  pub ordered : All (λ o. IsTrue (is_taken c.domains o.dom)) c.named_tasks
+  pub ordered : All (λ t. IsTrue (is_taken c.domains t.dom)) c.tasks
+  pub numbered : AreNumbered (length c.flags) c.tasks
   pub some_domain : 1 ≤ length c.domains
 
 -- The lines are those of this script for the command, and its rights are triples:

@@ -12,5 +12,4 @@ pub mod RunContents
 pub mod RunScripts
 pub mod Script
 pub mod Stuck
-pub mod Tasks
 pub mod Types

@@ -1,20 +1,11 @@
--- Tasks with their flags by name or by number.
-use Rattle.std.specs.Prelude.{ℕ, List}
-use Rattle.gt_script.specs.declared.tasks.RunActionBy.{RunActionBy}
-use Rattle.gt_script.specs.declared.tasks.RunTaskBy.{RunTaskBy}
+-- The tasks of a script for `run`, under names that the crates above can use.
+use Rattle.gt_script.specs.declared.tasks.RunAction as actions
+use Rattle.gt_script.specs.declared.tasks.RunTask as tasks
 
--- a task as it is written
-abbrev pub NamedRunTask : Type 0
-NamedRunTask = RunTaskBy (List ℕ)
-
--- the action of such a task
-abbrev pub NamedRunAction : Type 0
-NamedRunAction = RunActionBy (List ℕ)
-
--- a task with its flag by number
-abbrev pub RunTask : Type 0
-RunTask = RunTaskBy ℕ
-
--- the action of such a task
+-- the action of a task, with its flag by number
 abbrev pub RunAction : Type 0
-RunAction = RunActionBy ℕ
+RunAction = actions.RunAction
+
+-- a task
+abbrev pub RunTask : Type 0
+RunTask = tasks.RunTask

@@ -17,7 +17,7 @@ pub use Rattle.gt_script.specs.declared.faults.ScriptError.TheVariants.{Memory}
 pub use Rattle.gt_script.specs.declared.faults.ScriptFault.{ScriptFault}
 pub use Rattle.gt_script.specs.declared.faults.ScriptFaultKind.{ScriptFaultKind}
 pub use Rattle.gt_script.specs.declared.faults.ScriptFaultKind.TheVariants.{Config, Limit, Mode, Syntax, Utf8}
-pub use Rattle.gt_script.specs.Lists.{NamedRunTask, NamedRunAction}
+pub use Rattle.gt_script.specs.Lists.{RunAction, RunTask}
 pub use Rattle.gt_script.specs.declared.script.ScriptStep.{ScriptStep}
 pub use Rattle.gt_text.specs.Texts.{line_after}
 pub use Rattle.gt_types.specs.Config.{AreFaultless, domain_fault, is_taken}

@@ -6,7 +6,7 @@ use Rattle.gt_types.specs.declared.DomId.{DomId}
 use Rattle.gt_types.specs.declared.config.DomainConfig.{DomainConfig}
 use Rattle.gt_script.specs.Stuck.{IsClosedFlagSet, PassesAll, WaitsAt}
 use Rattle.gt_script.specs.Lists.{RunAction, RunTask}
-use Rattle.gt_script.specs.declared.tasks.RunActionBy.TheVariants.{Do, Tell, Await}
+use Rattle.gt_script.specs.declared.tasks.RunAction.TheVariants.{Do, Tell, Await}
 
 -- whether a flag is raised
 abbrev pub flag_holds : List Bool → ℕ → Bool

@@ -2,16 +2,13 @@
 use Rattle.std.specs.Prelude.{◌≡◌, ◌⊎◌, ◌≤◌, ℕ, ◌==◌, List, filter, length, Some, Result, Ok, Err}
 use Rattle.gt_types.specs.Config.{AreFaultless}
 use Rattle.gt_types.specs.declared.DomId.{DomId}
-use Rattle.gt_types.specs.declared.config.DomainConfig.{DomainConfig}
 use Rattle.gt_types.specs.declared.limits.TheConstants.{LAST_GENERATION}
 use Rattle.gt_policy.specs.declared.fault.TokenFault as policy
 use Rattle.gt_script.specs.Blocks.{block_fault_shown}
-use Rattle.gt_script.specs.Contents.{Contents, without_orders, first_gen}
-use Rattle.gt_script.specs.Flags.{flag_names_of}
+use Rattle.gt_script.specs.Contents.{Contents, head_in, first_gen}
 use Rattle.gt_script.specs.RunContents.{RunContents, run_contents}
 use Rattle.gt_script.specs.Script.{Wrong, in_script, in_policy, ReadsFor}
 use Rattle.gt_script.specs.Stuck.{IsRaisable, AllEnd, IsStuckAt}
-use Rattle.gt_script.specs.Tasks.{tasks_of}
 use Rattle.gt_script.specs.declared.command.ScriptCommand.TheVariants.{Run}
 use Rattle.gt_script.specs.declared.faults.ScriptFaultKind.TheVariants.{Stuck}
 use Rattle.gt_script.specs.declared.faults.ScriptError.{ScriptError}
@@ -27,27 +24,16 @@ CanConfigure c = AreFaultless c.domains × (1 ≤ length c.domains) × (first_ge
 abbrev pub list_of : List RunTask → DomId → List RunTask
 list_of tasks dom = filter (λ t. t.dom.0 == dom.0) tasks
 
--- the script for `run` of contents that were read for `run`; flags are numbered as they first appear
+-- the script for `run` of contents that were read for `run`
 abbrev pub run_of : Contents → RunContents
-run_of c = record { head = without_orders c; tasks = tasks_of c; flags = length (flag_names_of c.named_tasks) }
-
--- each domain comes to the end of its list
-abbrev pub ComeToEnd : List RunTask → List DomainConfig → Type 0
-ComeToEnd tasks domains = AllEnd (IsRaisable tasks) tasks domains
-
--- the line at which the first domain waits that does not come to the end of its list, unless an allocation failed
-abbrev pub IsStuckError : List RunTask → List DomainConfig → ScriptError → Type 0
-IsStuckError tasks domains script_errors.Memory = Unit {0}
-IsStuckError tasks domains (script_errors.Fault f) =
-    IsStuckAt (IsRaisable tasks) tasks domains f.line × (f.kind ≡ Stuck)
-IsStuckError tasks domains (script_errors.Policy e) = ⊥
+run_of c = record { head = head_in c; tasks = c.tasks; flags = length c.flags }
 
 -- What contents that were read for `run` mean: their script, if each domain comes to the end of its
 -- list, and else a fault at the line where the first one that does not waits for ever.
 abbrev pub ContentsReadAs : Contents → Result RunContents Wrong → Type 0
-ContentsReadAs c (Ok run) = AllEnd (IsRaisable (tasks_of c)) (tasks_of c) c.domains × (run ≡ run_of c)
+ContentsReadAs c (Ok run) = AllEnd (IsRaisable c.tasks) c.tasks c.domains × (run ≡ run_of c)
 ContentsReadAs c (Err (in_script f)) =
-    IsStuckAt (IsRaisable (tasks_of c)) (tasks_of c) c.domains f.line × (f.kind ≡ Stuck)
+    IsStuckAt (IsRaisable c.tasks) c.tasks c.domains f.line × (f.kind ≡ Stuck)
 ContentsReadAs c (Err (in_policy g)) = ⊥
 
 -- The bytes mean this script for `run`, or have this first fault; a domain that waits for ever

@@ -4,18 +4,19 @@ use Rattle.std.specs.Prelude.{Option, Some, None, Result, Ok, Err, take, drop, i
 use Rattle.gt_script.specs.Prelude.{option_map, IsUtf8, utf8_valid_len, line_after, LONGEST_TEXT, is_taken}
 use Rattle.gt_script.specs.Prelude.{domain_fault, DomId, TypeId, DomainConfig, Allowed, type_named, words, number_below}
 use Rattle.gt_script.specs.Prelude.{◌>>=◌, line_of, Number, ScriptAction, BodyLine, ScriptCommand, Play, Run}
-use Rattle.gt_script.specs.Prelude.{NamedRunAction, TripleLine, DomainLine, ScriptLine, ScriptFaultKind, Limit, Utf8}
+use Rattle.gt_script.specs.Prelude.{RunAction, TripleLine, DomainLine, ScriptLine, ScriptFaultKind, Limit, Utf8}
 use Rattle.gt_script.specs.Prelude.{Syntax, Config, Mode, ScriptFault}
 use Rattle.std.specs.Str.Lines.{lines as lines_in}
 use Rattle.gt_policy.specs.declared.fault.TokenFault as policy
 use Rattle.gt_script.specs.Blocks.{opening, closing, BlockMeans, IsFaultyBlock}
 use Rattle.gt_script.specs.Types.{with_type_name}
+use Rattle.gt_script.specs.Flags.{flag_number, with_flag_of}
 use Rattle.gt_script.specs.Contents.{Contents, empty, with_policy}
 use Rattle.gt_script.specs.declared.actions.ScriptAction.TheVariants as script_actions
 use Rattle.gt_script.specs.declared.faults.AddError.{AddError}
 use Rattle.gt_script.specs.declared.faults.AddError.TheVariants as add_errors
 use Rattle.gt_script_lines.specs.declared.body.BodyLine.TheVariants as body_lines
-use Rattle.gt_script.specs.declared.tasks.RunActionBy.TheVariants as run_actions
+use Rattle.gt_script.specs.declared.tasks.RunAction.TheVariants as run_actions
 use Rattle.gt_script_lines.specs.declared.lines.ScriptLine.TheVariants as script_lines
 
 -- a list without elements
@@ -37,7 +38,7 @@ has_no_rights c = is_none c.policy && is_empty c.triples
 
 -- a line of the body was read
 unfoldable pub has_body : Contents → Bool
-has_body c = not (is_empty c.steps) || not (is_empty c.named_tasks)
+has_body c = not (is_empty c.steps) || not (is_empty c.tasks)
 
 -- the policy or triples come first, then at most one line `wear`, then domains, then the body
 unfoldable pub is_misplaced : Contents → ScriptLine → Bool
@@ -103,14 +104,14 @@ play_action_in (body_lines.Show gref) = Some (script_actions.Show gref)
 play_action_in (body_lines.Tell flag) = None
 play_action_in (body_lines.Await flag) = None
 
--- what a line of the body is for `run`: a whole call, or a flag that is raised or awaited
-unfoldable pub run_action_in : BodyLine → Option NamedRunAction
-run_action_in (body_lines.Do call) = Some (run_actions.Do call)
-run_action_in (body_lines.Begin call) = None
-run_action_in (body_lines.Tick most) = None
-run_action_in (body_lines.Show gref) = None
-run_action_in (body_lines.Tell flag) = Some (run_actions.Tell flag)
-run_action_in (body_lines.Await flag) = Some (run_actions.Await flag)
+-- what a line of the body is for `run`: a whole call, or a flag, by its number among these, that is raised or awaited
+unfoldable pub run_action_in : List (List ℕ) → BodyLine → Option RunAction
+run_action_in flags (body_lines.Do call) = Some (run_actions.Do call)
+run_action_in flags (body_lines.Begin call) = None
+run_action_in flags (body_lines.Tick most) = None
+run_action_in flags (body_lines.Show gref) = None
+run_action_in flags (body_lines.Tell flag) = Some (run_actions.Tell (flag_number flags flag))
+run_action_in flags (body_lines.Await flag) = Some (run_actions.Await (flag_number flags flag))
 
 -- the contents after a line, or the fault `mode`
 abbrev pub or_mode : Option Contents → Result Contents ScriptFaultKind
@@ -123,16 +124,19 @@ with_domain_line c n dom asks = or_mode (do
   action ← play_action_in asks
   Some (record c { steps = c.steps ++ record { line = n; dom = dom; action = action } ∷ [] }))
 
--- a script for `run` with one more task, on line n
-unfoldable pub with_named_task : Contents → ℕ → DomId → BodyLine → Result Contents ScriptFaultKind
-with_named_task c n dom asks = or_mode (do
-  action ← run_action_in asks
-  Some (record c { named_tasks = c.named_tasks ++ record { line = n; dom = dom; run_action = action } ∷ [] }))
+-- a script for `run` with one more task, on line n, whose flag has the next number if it is new
+unfoldable pub with_task : Contents → ℕ → DomId → BodyLine → Result Contents ScriptFaultKind
+with_task c n dom asks = or_mode (do
+  action ← run_action_in (with_flag_of c.flags asks) asks
+  Some (record c {
+    tasks = c.tasks ++ record { line = n; dom = dom; run_action = action } ∷ [];
+    flags = with_flag_of c.flags asks;
+  }))
 
 -- a script for this command with one more line of the body
 abbrev pub with_asked : ScriptCommand → Contents → ℕ → DomId → BodyLine → Result Contents ScriptFaultKind
 with_asked Play c n dom asks = with_domain_line c n dom asks
-with_asked Run c n dom asks = with_named_task c n dom asks
+with_asked Run c n dom asks = with_task c n dom asks
 
 -- the script with one more line of the body, whose domain is configured
 unfoldable pub with_body_line : Contents → ℕ → Number → BodyLine → Result Contents ScriptFaultKind

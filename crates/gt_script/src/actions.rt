@@ -1,10 +1,13 @@
 //! What a line of the body is for each of the two commands.
-ghost use Rattle.std.specs.Prelude.{◌≡◌};
+ghost use Rattle.std.specs.Prelude.{◌≡◌, IfOk, OnOk};
+ghost use Rattle.gt_script.specs.Flags.{with_flag_of};
 ghost use Rattle.gt_script.specs.Script.{play_action_in, run_action_in};
 
-use crate::tasks::RunActionBy;
-use gt_script_lines::{BodyLine, ScriptCall, Text};
+use crate::flags::FlagNames;
+use crate::tasks::RunAction;
+use gt_script_lines::{BodyLine, ScriptCall};
 use gt_types::GrantRef;
+use std::alloc::AllocError;
 
 /// What a line of the body is for `play`.
 #[derive(Debug, Drop)]
@@ -34,15 +37,22 @@ pub fn play_action_in<'a>(asks: BodyLine<'a>) -> Option<ScriptAction<'a>>
 }
 
 /// Returns what a line of the body is for `run`: a whole call, or a flag that is raised or awaited; None if it is one
-/// for `play`.
+/// for `play`. A flag that is new gets the next number.
+///
+/// # Errors
+/// An allocation failed.
 #[tactic(auto, unfolding(crate::specs::Script::run_action_in))]
-pub fn run_action_in<'a>(asks: BodyLine<'a>) -> Option<RunActionBy<'a, Text<'a>>>
-    ensures { result ≡ run_action_in asks.entry }
+pub fn run_action_in<'a>(
+    flags: &mut FlagNames<'a>,
+    asks: BodyLine<'a>,
+) -> Result<Option<RunAction<'a>>, AllocError>
+    ensures flags { OnOk result (flags.new ≡ with_flag_of flags.old asks.entry) }
+    ensures action { IfOk result (λ action. action ≡ run_action_in flags.new asks.entry) }
 {
-    match asks {
-        BodyLine::Do(call) => Some(RunActionBy::Do(call)),
+    Ok(match asks {
+        BodyLine::Do(call) => Some(RunAction::Do(call)),
         BodyLine::Begin(_) | BodyLine::Tick(_) | BodyLine::Show(_) => None,
-        BodyLine::Tell(flag) => Some(RunActionBy::Tell(flag)),
-        BodyLine::Await(flag) => Some(RunActionBy::Await(flag)),
-    }
+        BodyLine::Tell(flag) => Some(RunAction::Tell(flags.number(flag.as_bytes())?)),
+        BodyLine::Await(flag) => Some(RunAction::Await(flags.number(flag.as_bytes())?)),
+    })
 }

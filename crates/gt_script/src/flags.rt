@@ -40,10 +40,10 @@ impl<'a> FlagNames<'a> {
         self.names.len()
     }
 
-    /// Returns the number of a flag. A new flag gets the next number.
+    /// Returns the number of a flag. A flag that is new gets the next number.
     pub fn number(&mut self, name: &'a [u8]) -> Result<usize, AllocError>
         ensures names { OnOk result (self.new ≡ with_flag self.old name.entry.now) }
-        ensures number { IfOk result (λ n. n ≡ flag_number self.old name.entry.now) }
+        ensures number { IfOk result (λ n. n ≡ flag_number self.new name.entry.now) }
     {
         let (number, _) = self.names.insert_full(name)?;
         Ok(number)

@@ -39,7 +39,7 @@ fn of_block<'a>(
     };
     match read_policy(alloc, first, &lines[..end]) {
         Ok(policy) => {
-            let script = Script::with_policy(alloc, command, policy);
+            let script = Script::new(alloc, command, Some(policy));
             script.with_rest(alloc, first + end + 1, count, &lines[end + 1..])
         }
         Err(error) => Err(error),
@@ -56,7 +56,7 @@ fn of_lines<'a>(
 {
     match block_opening(alloc, lines)? {
         Some(place) => of_block(alloc, command, lines.len(), place + 1, &lines[place + 1..]),
-        None => Script::new(alloc, command).with_rest(alloc, 0, lines.len(), lines),
+        None => Script::new(alloc, command, None).with_rest(alloc, 0, lines.len(), lines),
     }
 }
 

@@ -4,28 +4,26 @@ ghost use Rattle.gt_types.specs.Config.{is_taken};
 ghost use Rattle.gt_types.specs.declared.limits.TheConstants.{LONGEST_TEXT};
 ghost use Rattle.gt_script.specs.Contents.{contents_of};
 ghost use Rattle.gt_script.specs.RunScripts.{CanConfigure, ContentsReadAs, ReadsAsRun, RunAnswers, list_of as list_in};
-ghost use Rattle.gt_script.specs.RunScripts.{ComeToEnd, IsStuckError};
-ghost use Rattle.gt_script.specs.Flags.{flag_names_of};
 ghost use Rattle.gt_script.specs.Preceding.{preceding};
 ghost use Rattle.gt_script.specs.RunContents.{run_contents};
-ghost use Rattle.gt_script.specs.Tasks.{tasks_numbered};
 ghost use Rattle.gt_script.specs.Stuck.{AreNumbered};
 
 use crate::command::ScriptCommand;
 use crate::faults::{ScriptError, ScriptFault, ScriptFaultKind};
+use crate::head::ScriptHead;
 use crate::parsing::parse_for;
 use crate::precedence::Precedence;
 use crate::script::Script;
 use crate::stuck::stuck_line;
-use crate::tasks::{NamedRunTask, RunTask, tasks_for};
-use gt_types::{DomId, DomainConfig};
+use crate::tasks::RunTask;
+use gt_types::DomId;
 use std::alloc::{AllocError, Global};
 use std::marker::Model;
 
 /// A script for `run` without fault, in which each domain comes to the end of its list.
 #[derive(Drop)]
 pub struct RunScript<'a> {
-    head: Script<'a>,
+    head: ScriptHead<'a>,
     tasks: Vec<RunTask<'a>>,
     flags: usize,
 }
@@ -39,8 +37,8 @@ impl<'a> Model for RunScript<'a> {
 }
 
 impl<'a> RunScript<'a> {
-    /// Returns the part before the body, as a script without steps.
-    pub fn head(&self) -> &Script<'a>
+    /// Returns what precedes the body.
+    pub fn head(&self) -> &ScriptHead<'a>
         ensures { result.now ≡ self.now.head }
     {
         &self.head
@@ -102,41 +100,25 @@ impl<'a> RunScript<'a> {
     }
 }
 
-// Numbers the flags of tasks, and checks that each domain can reach the end of its list.
-fn tasks_to_end<'a>(
-    alloc: Global,
-    named_tasks: Vec<NamedRunTask<'a>>,
-    domains: &[DomainConfig],
-) -> Result<(Vec<RunTask<'a>>, usize), ScriptError>
-    requires { All (λ o. IsTrue (is_taken domains.now o.dom)) named_tasks.items }
-    ensures tasks { IfOk result (λ made. made.0.items ≡ tasks_numbered named_tasks.entry.items) }
-    ensures flags { IfOk result (λ made. made.1 ≡ length (flag_names_of named_tasks.entry.items)) }
-    ensures end { IfOk result (λ _. ComeToEnd (tasks_numbered named_tasks.entry.items) domains.now) }
-    ensures stuck { IfErr result (λ e. IsStuckError (tasks_numbered named_tasks.entry.items) domains.now e) }
+// Makes the script for `run` of a script that was parsed for `run`, if each domain reaches the end of its list.
+fn of_script<'a>(alloc: Global, script: Script<'a>) -> Result<RunScript<'a>, ScriptError>
+    requires numbered { AreNumbered (length (contents_of script).flags) (contents_of script).tasks }
+    requires known { All (λ t. IsTrue (is_taken (contents_of script).domains t.dom)) (contents_of script).tasks }
+    ensures { RunAnswers result (ContentsReadAs (contents_of script.entry)) }
 {
-    let (tasks, flags) = tasks_for(alloc, named_tasks)?;
-    match stuck_line(alloc, tasks.as_slice(), domains, flags)? {
-        None => Ok((tasks, flags)),
+    let Script {
+        head,
+        tasks,
+        flags,
+        ..
+    } = script;
+    let flags = flags.len();
+    match stuck_line(alloc, tasks.as_slice(), head.domains.as_slice(), flags)? {
+        None => Ok(RunScript { head, tasks, flags }),
         Some(line) => Err(ScriptError::Fault(ScriptFault {
             line,
             kind: ScriptFaultKind::Stuck,
         })),
-    }
-}
-
-// Makes the script for `run` of a script that was parsed for `run`.
-fn of_script<'a>(alloc: Global, mut script: Script<'a>) -> Result<RunScript<'a>, ScriptError>
-    requires { All (λ o. IsTrue (is_taken (contents_of script).domains o.dom)) (contents_of script).named_tasks }
-    ensures { RunAnswers result (ContentsReadAs (contents_of script.entry)) }
-{
-    let named_tasks = script.take_named_tasks(alloc);
-    match tasks_to_end(alloc, named_tasks, script.domains()) {
-        Ok((tasks, flags)) => Ok(RunScript {
-            head: script,
-            tasks,
-            flags,
-        }),
-        Err(error) => Err(error),
     }
 }
 

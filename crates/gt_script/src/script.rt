@@ -7,8 +7,9 @@ ghost use Rattle.gt_script.specs.Contents.{contents_of};
 use crate::actions::{ScriptAction, play_action_in, run_action_in};
 use crate::command::ScriptCommand;
 use crate::faults::{AddError, ScriptError, ScriptFault, ScriptFaultKind};
-use crate::tasks::NamedRunTask;
-use crate::types::TypeNames;
+use crate::flags::FlagNames;
+use crate::head::ScriptHead;
+use crate::tasks::RunTask;
 use gt_policy::Policy;
 use gt_script_lines::{
     BodyLine, DomainLine, Number, ScriptLine, Text, TripleLine, line_words, read_line,
@@ -16,7 +17,6 @@ use gt_script_lines::{
 use gt_types::{DomId, DomainConfig, Triple, TypeId};
 use std::alloc::{AllocError, Global};
 use std::marker::Model;
-use std::mem;
 
 /// A line of the body for `play`, with its number and its domain.
 #[derive(Drop)]
@@ -26,17 +26,13 @@ pub struct ScriptStep<'a> {
     pub action: ScriptAction<'a>,
 }
 
-/// A script without fault. If it has a policy block, the policy has its rights and types, and there are no triples.
+/// A script without fault: its head, and its body. The lines of the body are steps for `play`, and tasks for `run`.
 #[derive(Drop)]
 pub struct Script<'a> {
-    command: ScriptCommand,
-    policy: Option<Policy>,
-    types: TypeNames<'a>,
-    triples: Vec<Triple>,
-    wear: Option<u32>,
-    domains: Vec<DomainConfig>,
+    pub(crate) head: ScriptHead<'a>,
     steps: Vec<ScriptStep<'a>>,
-    named_tasks: Vec<NamedRunTask<'a>>,
+    pub(crate) tasks: Vec<RunTask<'a>>,
+    pub(crate) flags: FlagNames<'a>,
 }
 
 impl<'a> Model for Script<'a> {
@@ -44,15 +40,10 @@ impl<'a> Model for Script<'a> {
 
     ghost Value = { KeptContents };
 
-    ghost view = { λ s. record {
-      command = s.command;
-      policy = s.policy;
-      types = s.types;
-      triples = s.triples.items;
-      wear = s.wear;
-      domains = s.domains.items;
+    ghost view = { λ s. record s.head {
       steps = s.steps.items;
-      named_tasks = s.named_tasks.items;
+      tasks = s.tasks.items;
+      flags = s.flags;
     } };
 }
 
@@ -75,30 +66,6 @@ fn configured(domains: &[DomainConfig], number: Number) -> Option<DomId>
     }
 }
 
-// Lists the names of a policy's types, by their numbers.
-fn names_of<'p>(alloc: Global, policy: &'p Policy) -> Result<Vec<Text<'p>>, AllocError>
-    ensures { IfOk result (λ names. names.items ≡ policy.entry.now.types) }
-{
-    let mut names = Vec::new(alloc);
-    'types: for id in 0..policy.count() {
-        let Some(name) = policy.name(TypeId(id)) else {
-            unreachable!();
-        };
-        names.push(Text::new(name.as_bytes()))?;
-    }
-    Ok(names)
-}
-
-fn copies<'a>(alloc: Global, names: &[Text<'a>]) -> Result<Vec<Text<'a>>, AllocError>
-    ensures { IfOk result (λ copies. copies.items ≡ names.now) }
-{
-    let mut copies = Vec::new(alloc);
-    'names: for name in names {
-        copies.push(Text::new(name.as_bytes()))?;
-    }
-    Ok(copies)
-}
-
 // Makes the domain of a line, if its numbers fit.
 #[tactic(auto, unfolding(crate::specs::Script::domain_written))]
 fn domain_written(line: &DomainLine, label: TypeId) -> Option<DomainConfig>
@@ -118,83 +85,33 @@ impl<'a> Script<'a> {
     ghost use Rattle.gt_script_lines.specs.Words.{words as words_in};
     ghost use Rattle.std.specs.Option.{option_map};
     ghost use Rattle.gt_policy.specs.Kept.{allowed_of};
-    ghost use Rattle.gt_script.specs.Contents.{contents_of, empty, with_policy, without_orders, type_names};
-    ghost use Rattle.gt_script.specs.Contents.{first_gen};
-    ghost use Rattle.gt_script.specs.Script.{with_triple, GivesTypeNumber, with_domain, with_domain_line, with_named_task};
+    ghost use Rattle.gt_script.specs.Contents.{contents_of, kept_head_in, starting};
+    ghost use Rattle.gt_script.specs.Script.{with_triple, GivesTypeNumber, with_domain, with_domain_line, with_task};
     ghost use Rattle.gt_script.specs.Script.{with_body_line, with_script_line, with_words};
     ghost use Rattle.gt_script.specs.Script.{completed, whole_script};
     ghost use Rattle.gt_script.specs.Script.{has_no_rights, has_body, is_misplaced};
     ghost use Rattle.gt_script.specs.Outcomes.{AddsLine, AddsLines, GivesScript};
 
-    pub(crate) fn new(alloc: Global, command: ScriptCommand) -> Script<'a>
-        ensures { contents_of result ≡ empty command }
+    // Makes a script without lines, with the policy of its block if it has one.
+    pub(crate) fn new(alloc: Global, command: ScriptCommand, policy: Option<Policy>) -> Script<'a>
+        ensures { contents_of result ≡ starting command (option_map allowed_of policy) }
     {
         Script {
-            command,
-            policy: None,
-            types: TypeNames::new(alloc),
-            triples: Vec::new(alloc),
-            wear: None,
-            domains: Vec::new(alloc),
+            head: ScriptHead::new(alloc, command, policy),
             steps: Vec::new(alloc),
-            named_tasks: Vec::new(alloc),
+            tasks: Vec::new(alloc),
+            flags: FlagNames::new(alloc),
         }
     }
 
-    // Makes a script of only a policy.
-    pub(crate) fn with_policy(alloc: Global, command: ScriptCommand, policy: Policy) -> Script<'a>
-        ensures { contents_of result ≡ with_policy command (allowed_of policy) }
+    /// Returns what precedes the body.
+    pub fn head(&self) -> &ScriptHead<'a>
+        ensures { result.now ≡ kept_head_in self.now }
     {
-        let mut script = Script::new(alloc, command);
-        script.policy = Some(policy);
-        script
-    }
-
-    /// Returns the names of the types, from the policy or from triples and labels. The index of a name is the number of
-    /// its type.
-    pub fn type_names(&self, alloc: Global) -> Result<Vec<Text<'_>>, AllocError>
-        ensures { IfOk result (λ names. names.items ≡ type_names (contents_of self.now)) }
-    {
-        match &self.policy {
-            Some(policy) => names_of(alloc, policy),
-            None => copies(alloc, self.types.as_slice()),
-        }
-    }
-
-    /// Returns the policy of the script's block, if it has one. Otherwise the triples are what is allowed.
-    pub fn policy(&self) -> Option<&Policy>
-        ensures { option_map (λ p. p.now) result ≡ self.now.policy }
-    {
-        self.policy.as_ref()
-    }
-
-    /// Returns the triples of the head, in order.
-    pub fn triples(&self) -> &[Triple]
-        ensures { result.now ≡ self.now.triples }
-    {
-        self.triples.as_slice()
-    }
-
-    /// Returns the first generation of all entries, 0 to 1,048,575: that of the line `wear`, or 0.
-    pub fn first_gen(&self) -> u32
-        ensures { result ≡ first_gen (contents_of self.now) }
-    {
-        self.wear.unwrap_or(0)
-    }
-
-    /// Returns the domains of the run, in order.
-    pub fn domains(&self) -> &[DomainConfig]
-        ensures { result.now ≡ self.now.domains }
-    {
-        self.domains.as_slice()
-    }
-
-    // Takes the lines of the body for `run` out of the script.
-    pub(crate) fn take_named_tasks(&mut self, alloc: Global) -> Vec<NamedRunTask<'a>>
-        ensures head { contents_of self.new ≡ without_orders (contents_of self.old) }
-        ensures named_tasks { result.items ≡ (contents_of self.old).named_tasks }
-    {
-        mem::replace(&mut self.named_tasks, Vec::new(alloc))
+        // A field is looked at, so that the head is known to have no lines of a body.
+        let head = &self.head;
+        let _domains = &head.domains;
+        head
     }
 
     /// Returns the steps of the body, in order.
@@ -208,10 +125,10 @@ impl<'a> Script<'a> {
     fn add_triple(&mut self, triple: &TripleLine<'a>) -> Result<(), AddError>
         ensures { AddsLine result (contents_of self.new) (with_triple (contents_of self.old) triple.now) }
     {
-        let source = self.types.number(triple.source.as_bytes())?;
-        let target = self.types.number(triple.target.as_bytes())?;
+        let source = self.head.types.number(triple.source.as_bytes())?;
+        let target = self.head.types.number(triple.target.as_bytes())?;
         let perm = triple.perm;
-        self.triples.push(Triple {
+        self.head.triples.push(Triple {
             source,
             target,
             perm,
@@ -223,11 +140,11 @@ impl<'a> Script<'a> {
     fn type_number(&mut self, name: &'a [u8]) -> Result<TypeId, AddError>
         ensures { GivesTypeNumber (contents_of self.old) (contents_of self.new) name.entry.now result }
     {
-        match &self.policy {
+        match &self.head.policy {
             Some(policy) => policy
                 .type_spelled(name)
                 .ok_or(AddError::Fault(ScriptFaultKind::Config)),
-            None => self.types.number(name),
+            None => self.head.types.number(name),
         }
     }
 
@@ -239,10 +156,10 @@ impl<'a> Script<'a> {
         let Some(domain) = domain_written(line, label) else {
             return Err(AddError::Fault(ScriptFaultKind::Config));
         };
-        if domain.fault(&self.domains).is_some() {
+        if domain.fault(&self.head.domains).is_some() {
             return Err(AddError::Fault(ScriptFaultKind::Config));
         }
-        self.domains.push(domain)?;
+        self.head.domains.push(domain)?;
         Ok(())
     }
 
@@ -258,20 +175,15 @@ impl<'a> Script<'a> {
         Ok(())
     }
 
-    #[tactic(auto, unfolding(crate::specs::Script::with_named_task))]
-    fn add_named_task(
-        &mut self,
-        line: usize,
-        dom: DomId,
-        asks: BodyLine<'a>,
-    ) -> Result<(), AddError>
+    #[tactic(auto, unfolding(crate::specs::Script::with_task))]
+    fn add_task(&mut self, line: usize, dom: DomId, asks: BodyLine<'a>) -> Result<(), AddError>
         ensures { AddsLine result (contents_of self.new)
-            (with_named_task (contents_of self.old) line dom asks.entry) }
+            (with_task (contents_of self.old) line dom asks.entry) }
     {
-        let Some(run_action) = run_action_in(asks) else {
+        let Some(run_action) = run_action_in(&mut self.flags, asks)? else {
             return Err(AddError::Fault(ScriptFaultKind::Mode));
         };
-        self.named_tasks.push(NamedRunTask {
+        self.tasks.push(RunTask {
             line,
             dom,
             run_action,
@@ -284,12 +196,12 @@ impl<'a> Script<'a> {
         ensures { AddsLine result (contents_of self.new)
             (with_body_line (contents_of self.old) line id asks.entry) }
     {
-        let Some(dom) = configured(&self.domains, id) else {
+        let Some(dom) = configured(&self.head.domains, id) else {
             return Err(AddError::Fault(ScriptFaultKind::Config));
         };
-        match self.command {
+        match self.head.command {
             ScriptCommand::Play => self.add_step(line, dom, asks),
-            ScriptCommand::Run => self.add_named_task(line, dom, asks),
+            ScriptCommand::Run => self.add_task(line, dom, asks),
         }
     }
 
@@ -297,29 +209,30 @@ impl<'a> Script<'a> {
     fn has_no_rights(&self) -> bool
         ensures { result ≡ has_no_rights (contents_of self.now) }
     {
-        self.policy.is_none() && self.triples.is_empty()
+        self.head.policy.is_none() && self.head.triples.is_empty()
     }
 
     #[tactic(auto, unfolding(crate::specs::Script::has_body))]
     fn has_body(&self) -> bool
         ensures { result ≡ has_body (contents_of self.now) }
     {
-        !self.steps.is_empty() || !self.named_tasks.is_empty()
+        !self.steps.is_empty() || !self.tasks.is_empty()
     }
 
     #[tactic(auto, unfolding(crate::specs::Script::is_misplaced))]
     fn is_misplaced(&self, line: &ScriptLine<'a>) -> bool
         ensures { result ≡ is_misplaced (contents_of self.now) line.now }
     {
+        let head = &self.head;
         match line {
             ScriptLine::Triple(_) => {
-                self.policy.is_some() || self.wear.is_some() || !self.domains.is_empty()
+                head.policy.is_some() || head.wear.is_some() || !head.domains.is_empty()
             }
             ScriptLine::Wear(_) => {
-                self.has_no_rights() || self.wear.is_some() || !self.domains.is_empty()
+                self.has_no_rights() || head.wear.is_some() || !head.domains.is_empty()
             }
             ScriptLine::Domain(_) => self.has_no_rights() || self.has_body(),
-            ScriptLine::Body { .. } => self.domains.is_empty(),
+            ScriptLine::Body { .. } => head.domains.is_empty(),
         }
     }
 
@@ -334,7 +247,8 @@ impl<'a> Script<'a> {
         match line {
             ScriptLine::Triple(triple) => self.add_triple(&triple),
             ScriptLine::Wear(first) => {
-                self.wear = Some(first);
+                let head = &mut self.head;
+                head.wear = Some(first);
                 Ok(())
             }
             ScriptLine::Domain(domain) => self.add_domain(&domain),
@@ -343,25 +257,18 @@ impl<'a> Script<'a> {
     }
 
     #[tactic(auto, unfolding(crate::specs::Script::with_words))]
-    fn add_words(&mut self, number: usize, words: &[&'a [u8]]) -> Result<(), AddError>
-        ensures { AddsLine result (contents_of self.new)
-            (with_words (contents_of self.old) number (map (λ w. w.now) words.now)) }
-    {
-        if words.is_empty() {
-            return Ok(());
-        }
-        match read_line(words) {
-            Some(line) => self.add_line(number, line),
-            None => Err(AddError::Fault(ScriptFaultKind::Syntax)),
-        }
-    }
-
     fn add_text_line(&mut self, alloc: Global, number: usize, line: &'a str) -> Result<(), AddError>
         ensures { AddsLine result (contents_of self.new)
             (with_words (contents_of self.old) number (words_in line.entry.now)) }
     {
         let words = line_words(alloc, line)?;
-        self.add_words(number, words.as_slice())
+        if words.is_empty() {
+            return Ok(());
+        }
+        match read_line(words.as_slice()) {
+            Some(line) => self.add_line(number, line),
+            None => Err(AddError::Fault(ScriptFaultKind::Syntax)),
+        }
     }
 
     // Checks at the end of the script that there is a policy or a triple, and then that there is a domain.
@@ -372,7 +279,7 @@ impl<'a> Script<'a> {
     {
         let kind = if self.has_no_rights() {
             ScriptFaultKind::Syntax
-        } else if self.domains.is_empty() {
+        } else if self.head.domains.is_empty() {
             ScriptFaultKind::Config
         } else {
             return Ok(());

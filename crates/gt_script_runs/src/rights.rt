@@ -2,7 +2,7 @@
 ghost use Rattle.std.specs.Prelude.{◌≡◌, IfOk};
 
 use gt_allow::AllowTable;
-use gt_script::Script;
+use gt_script::ScriptHead;
 use gt_types::{Allows, Memory, Perms, Triples, TypeId};
 use std::alloc::Global;
 
@@ -30,15 +30,15 @@ impl ScriptPolicy {
     ghost use Rattle.gt_script.specs.Contents.{contents_of};
     ghost use Rattle.gt_script_runs.specs.Rights.{may_by, may_in};
 
-    /// Makes the rights of a script.
-    pub fn of<'s, 'a>(alloc: Global, script: &'s Script<'a>) -> Result<ScriptPolicy, Memory>
-        ensures { IfOk result (λ rights. may_by rights ≡ may_in (contents_of script.entry.now)) }
+    /// Makes the rights that this head gives.
+    pub fn of<'s, 'a>(alloc: Global, head: &'s ScriptHead<'a>) -> Result<ScriptPolicy, Memory>
+        ensures { IfOk result (λ rights. may_by rights ≡ may_in (contents_of head.entry.now)) }
     {
-        if let Some(policy) = script.policy() {
+        if let Some(policy) = head.policy() {
             return Ok(ScriptPolicy::Table(AllowTable::compile(alloc, policy)?));
         }
         Ok(ScriptPolicy::Triples(Triples {
-            allowed: Vec::from_slice(alloc, script.triples())?,
+            allowed: Vec::from_slice(alloc, head.triples())?,
         }))
     }
 }

@@ -1,7 +1,7 @@
 //! Accesses to frames. Each locks a frame, works on it in its slot and frees its lock. A copy takes its source out of
 //! its slot meanwhile.
 ghost use Rattle.std.specs.Prelude.{◌≡◌, ◌≢◌, ◌+◌, ◌≤◌, [], ◌∷◌, Bool, false, length, IfOk};
-ghost use Rattle.std.specs.Prelude.{IsTrue, OnOk, OnErr, Some, None, nat_lt, true};
+ghost use Rattle.std.specs.Prelude.{IsTrue, OnOk, OnErr, Some, None, nat_lt, true, vec_capacity, vec_len};
 ghost use Rattle.atomic_table.specs.Table.{Allows, rest};
 ghost use Rattle.gt_frames.specs.Frames.{FrameState, bytes_at, covers};
 ghost use Rattle.gt_types.specs.declared.limits.TheConstants.{FRAME_SIZE};
@@ -15,7 +15,7 @@ ghost use Rattle.gt_shared_table.specs.Recording.{without_taken_frame};
 
 use crate::locks::{free_lock, lock, return_lock};
 use crate::rule::{CellSeat, Cells, FrameSlot, OfAccess};
-use gt_frames::{Copied, Filled, Frame, Writ, Written};
+use gt_frames::{Copied, Filled, Frame, Read, Writ, Written};
 use gt_types::{Memory, Range};
 use std::marker::Brand;
 use std::sync::Wait;
@@ -48,6 +48,27 @@ fn free_read<J: OfAccess>(cells: &Cells, seat: &mut CellSeat, slot: FrameSlot, o
 {
     let _ = off;
     let _ = out;
+    free_lock::<J>(cells, seat, slot);
+}
+
+// Frees a frame that was read into memory of the reader's. Only the proof uses the arguments after `slot`.
+#[inline(always)]
+fn free_read_to<J: OfAccess>(
+    cells: &Cells,
+    seat: &mut CellSeat,
+    slot: FrameSlot,
+    off: u16,
+    read: &Read,
+)
+    requires fits { (seat.old.table_id ≡ cells.now.table_id)
+        × IsSlotOf (places_of cells.now.key) cells.now.table_id slot }
+    requires allowed { Allows (HoldsAll (places_of cells.now.key)) cells.now.table_id.slots seat.old.id seat.old.me
+        slot.lock (λ _. 0) (λ _ m. Frees J.places J.name J.access J.left seat.old.me m) }
+    ensures seat { (seat.new.table_id ≡ seat.old.table_id) × (seat.new.id ≡ seat.old.id) }
+    ensures frees { Frees J.places J.name J.access J.left seat.old.me seat.new.me }
+{
+    let _ = off;
+    let _ = read;
     free_lock::<J>(cells, seat, slot);
 }
 
@@ -147,6 +168,35 @@ pub(crate) fn read_out(
     };
     free_read::<Brand>(cells, seat, slot, off, out);
     filled
+}
+
+// Reads `len` bytes of a frame that is out into `room`, which is empty and has room for them, and frees the frame.
+#[inline(always)]
+pub(crate) fn read_out_to(
+    cells: &Cells,
+    seat: &mut CellSeat,
+    slot: FrameSlot,
+    off: u16,
+    len: u16,
+    room: Vec<u8>,
+) -> Read
+    requires mine { (seat.old.table_id ≡ cells.now.table_id) × (seat.old.me.0.own.gone ≡ false) }
+    requires slot { IsSlotOf (places_of cells.now.key) cells.now.table_id slot }
+    requires out { (x : FrameState) × IsOut (layout_of cells.now.key) slot true x seat.old.me }
+    requires range { off + len ≤ FRAME_SIZE }
+    requires room { (vec_len room ≡ 0) × (len ≤ vec_capacity room) }
+    ensures seat { (seat.new.table_id ≡ seat.old.table_id) × (seat.new.id ≡ seat.old.id) }
+    ensures read { Frees (places_of cells.now.key) (slot_frame slot) (frame_steps.Read off result.bytes)
+        (without_taken_frame true seat.old.me.0.held) seat.old.me seat.new.me }
+    ensures len { length result.bytes ≡ len }
+    ensures receipt { IsReadIn (layout_of cells.now.key) (slot_frame slot) off result }
+{
+    let read = match seat.slot_mut(cells, slot.index) {
+        Some(frame) => frame.read_to(off, usize::from(len), room),
+        None => unreachable!(),
+    };
+    free_read_to::<Brand>(cells, seat, slot, off, &read);
+    read
 }
 
 // Writes to a frame that is out, and frees it. If allocation fails, the frame returns to its slot unchanged.
@@ -322,6 +372,7 @@ pub(crate) fn copy<R: Wait>(
 }
 
 // Frees a frame in which a range was copied. Only the proof uses `copy`.
+#[inline(always)]
 fn free_copied_within<J: OfAccess>(
     cells: &Cells,
     seat: &mut CellSeat,

@@ -1,5 +1,6 @@
 //! The calls that access frames. Each is one step of the history. Only these calls may wait.
 ghost use Rattle.std.specs.Prelude.{◌≡◌, ◌≢◌, ◌+◌, ◌≤◌, ◌↔◌, ◌∷◌, length, IfOk, OnErr, OnOk, IsTrue};
+ghost use Rattle.std.specs.Prelude.{vec_capacity, vec_len};
 ghost use Rattle.gt_frames.specs.Frames.{covers};
 ghost use Rattle.gt_types.specs.declared.limits.TheConstants.{FRAME_SIZE};
 ghost use Rattle.gt_word_history.specs.Rule.{id_at};
@@ -8,11 +9,11 @@ ghost use Rattle.gt_shared_table.specs.Accesses.{IsReadIn, TakesAccess, TakesCop
 ghost use Rattle.gt_shared_table.specs.Locking.{LocksOf};
 ghost use Rattle.gt_shared_table.specs.Words.{HasFrame, named_at};
 
-use crate::accesses::{FrameCopy, FrameWrite, copy, copy_within, read_out, write_out};
+use crate::accesses::{FrameCopy, FrameWrite, copy, copy_within, read_out, read_out_to, write_out};
 use crate::locks::lock;
 use crate::slots::slot_at;
 use crate::table::{FrameIndex, SharedTable, TableSeat};
-use gt_frames::{Copied, Filled, Written};
+use gt_frames::{Copied, Filled, Read, Written};
 use gt_types::Memory;
 use std::sync::Wait;
 
@@ -53,6 +54,35 @@ impl SharedTable {
         let source = slot_at(cells, &self.firsts, frame);
         lock(rt, cells, &mut seat.seat, source);
         read_out(cells, &mut seat.seat, source, off, out)
+    }
+
+    /// Reads `len` bytes of a frame, starting at `off`, into `room`, which is empty and has room for them. Waits while
+    /// another seat has the frame. The bytes are those that the steps before this one make.
+    #[inline(always)]
+    pub fn read_frame_to<R: Wait>(
+        &self,
+        rt: &R,
+        seat: &mut TableSeat,
+        frame: FrameIndex,
+        off: u16,
+        len: u16,
+        room: Vec<u8>,
+    ) -> Read
+        requires table { seat.old.table ≡ self.now.table }
+        requires inside { HasFrame self.now frame }
+        requires range { off + len ≤ FRAME_SIZE }
+        requires room { (vec_len room ≡ 0) × (len ≤ vec_capacity room) }
+        ensures table { seat.new.table ≡ seat.old.table }
+        ensures locks { seat.new.locks ≡ named_at frame ∷ seat.old.locks }
+        ensures step { TakesAccess self.now.layout (named_at frame) (frame_steps.Read off result.bytes)
+            seat.old.view seat.new.view }
+        ensures len { length result.bytes ≡ len }
+        ensures receipt { IsReadIn self.now.layout (named_at frame) off result }
+    {
+        let cells = &self.table.shared;
+        let source = slot_at(cells, &self.firsts, frame);
+        lock(rt, cells, &mut seat.seat, source);
+        read_out_to(cells, &mut seat.seat, source, off, len, room)
     }
 
     /// Writes to a frame. Waits while another seat has the frame.

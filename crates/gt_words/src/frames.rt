@@ -1,5 +1,6 @@
 //! The calls that access frames, each one step. Only these calls may wait.
 ghost use Rattle.std.specs.Prelude.{◌≡◌, ◌+◌, ◌≤◌, length, IfErr, IfNone, IfOk, IfSome, IsTrue, OnErr, OnOk};
+ghost use Rattle.std.specs.Prelude.{vec_capacity, vec_len};
 ghost use Rattle.gt_frames.specs.Frames.{covers};
 ghost use Rattle.gt_types.specs.declared.limits.TheConstants.{FRAME_SIZE};
 ghost use Rattle.gt_shared_table.specs.Accesses.{IsReadIn, copied_in, written_in};
@@ -13,7 +14,7 @@ ghost use Rattle.gt_words.specs.Frames.{AccessesFrame, CopiesAt, IsCopyFault, Is
 ghost use Rattle.gt_words.specs.Frames.{copying_at, frame_in, index_of, spot_in, writing_at};
 
 use crate::words::{Seat, Words};
-use gt_frames::{Copied, Filled, Written};
+use gt_frames::{Copied, Filled, Read, Written};
 use gt_shared_table::{FrameCopy, FrameIndex, FrameWrite, SharedTable, TableSeat};
 use gt_types::{DomId, FrameName, Memory};
 use std::sync::Wait;
@@ -87,6 +88,37 @@ impl Words {
     {
         let frame = self.frame_at(seat, name)?;
         Some(self.words.read_frame(rt, &mut seat.place, frame, off, out))
+    }
+
+    /// Reads `len` bytes of a frame, starting at `off`, into `room`, which is empty and has room for them. Waits while
+    /// another seat has the frame. The bytes are those that the steps before this one make. Returns `None` if the table
+    /// has no such frame.
+    #[inline(always)]
+    pub fn read_frame_to<R: Wait>(
+        &self,
+        rt: &R,
+        seat: &mut Seat,
+        name: FrameName,
+        off: u16,
+        len: u16,
+        room: Vec<u8>,
+    ) -> Option<Read>
+        requires seat { IsSeatOf self.now seat.old }
+        requires range { off + len ≤ FRAME_SIZE }
+        requires room { (vec_len room ≡ 0) × (len ≤ vec_capacity room) }
+        ensures seat { IsSameSeat seat.old seat.new }
+        ensures fits { IsSeatOf self.now seat.new }
+        ensures step { IfSome result (λ r. AccessesFrame self.now.layout (position_at self.now name.owner) name.number
+            (frame_steps.Read off r.bytes) seat.old.view seat.new.view) }
+        ensures receipt { IfSome result (λ r. IsReadOf r name off len) }
+        ensures none { IfNone result (KeepsFrame self.now name → ⊥) }
+        ensures kept { IfNone result (seat.new.view ≡ seat.old.view) }
+    {
+        let found = self.frame_at(seat, name)?;
+        Some(
+            self.words
+                .read_frame_to(rt, &mut seat.place, found, off, len, room),
+        )
     }
 
     /// Writes bytes to a frame, by the writ of the write. Waits while another seat has the frame.

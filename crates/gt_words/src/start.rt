@@ -25,15 +25,17 @@ fn new_seat(words: &SharedTable, config: &Config, place: TableSeat, at: usize) -
 {
     let _ = words;
     let domain = config.domains[at];
+    let first = DomainPosition {
+        dom: config.domains[0].id,
+        position: 0,
+    };
     Seat {
         place,
         dom: domain.id,
         position: at,
         header: first_header(domain),
-        found: DomainPosition {
-            dom: config.domains[0].id,
-            position: 0,
-        },
+        found: first,
+        before: first,
     }
 }
 

@@ -45,6 +45,8 @@ pub struct Seat {
     pub(crate) header: Header,
     /// The domain looked up last. Calls on one entry follow one another and name one domain.
     pub(crate) found: DomainPosition,
+    /// The one that it replaced. A copy through a transitive entry names two domains by turns.
+    pub(crate) before: DomainPosition,
 }
 
 impl Model for Seat {
@@ -54,7 +56,8 @@ impl Model for Seat {
 
     ghost invariant = { λ s. (s.place.view.position ≡ s.position)
         × (own_header s.place.view ≡ header_word s.header) × IsKeptHeader s.header
-        × (s.found.position ≡ position_in s.place.view.ids s.found.dom) };
+        × (s.found.position ≡ position_in s.place.view.ids s.found.dom)
+        × (s.before.position ≡ position_in s.place.view.ids s.before.dom) };
 }
 
 impl Seat {
@@ -187,8 +190,8 @@ impl Words {
         }
     }
 
-    /// Finds the position of a domain, by a search only if it is not the last one looked up. Steps that follow one
-    /// another on a domain are made at its position (`load_control_at` and the like).
+    /// Finds the position of a domain, by a search only if it is neither of the last two looked up. Steps that follow
+    /// one another on a domain are made at its position (`load_control_at` and the like).
     #[inline(always)]
     pub fn position(&self, seat: &mut Seat, dom: DomId) -> usize
         requires { IsSeatOf self.now seat.old }
@@ -198,7 +201,11 @@ impl Words {
         if seat.found.dom.0 == dom.0 {
             return seat.found.position;
         }
+        if seat.before.dom.0 == dom.0 {
+            return seat.before.position;
+        }
         let position = position_of(&self.ids, dom);
+        seat.before = seat.found;
         seat.found = DomainPosition { dom, position };
         position
     }

@@ -21,6 +21,10 @@ const SMALL: usize = 2_040;
 
 const STEP: usize = 16;
 
+// The number of sizes that are tried for the block that holds the others back. Each is a step smaller than the one
+// before.
+const SIZES: usize = 64;
+
 /// All memory that the allocator can give, once it is closed.
 #[derive(Drop)]
 pub struct Flood {
@@ -71,14 +75,23 @@ impl Flood {
         Ok(())
     }
 
-    /// Lets this number of bytes of the gap through, and returns whether the others are held back.
+    /// Lets this number of bytes of the gap through, and returns whether the others are held back. What a block of the
+    /// program takes of the gap, up to a kilobyte, counts as let through. The others are then the largest block that
+    /// fits.
     pub fn let_through(&mut self, bytes: usize) -> bool {
         self.plug = None;
         if bytes >= self.gap {
             return false;
         }
-        self.plug = Vec::with_capacity(self.alloc, self.gap - bytes).ok();
-        self.plug.is_some()
+        let mut held = self.gap - bytes;
+        for _ in 0..SIZES {
+            self.plug = Vec::with_capacity(self.alloc, held).ok();
+            if self.plug.is_some() {
+                return true;
+            }
+            held = held.saturating_sub(STEP);
+        }
+        false
     }
 
     /// Releases what was taken since it was made.

@@ -1,5 +1,5 @@
 //! Searches for the races of a script's run.
-use gt_explore_races::search_races;
+use gt_explore_races::{EventKind, path_to_race, search_races};
 use gt_explore_search::Unwatched;
 use gt_script::parse_run;
 use std::test::Fail;
@@ -40,6 +40,22 @@ fn races_are_found(rt: HostRuntime) -> Result<(), Fail> {
             .iter()
             .any(|race| race.first == first && race.second == second);
         assert!(rt; listed);
+    }
+    Ok(())
+}
+
+// Domain 1 has the smaller line of each race: the access of domain 2 comes last.
+#[test]
+fn each_race_has_a_path(rt: HostRuntime) -> Result<(), Fail> {
+    let alloc = rt.alloc();
+    let script = parse_run(alloc, SHARED.as_bytes()).expect(&rt, "script");
+    let search = search_races(alloc, &script, 1_000, &mut Unwatched).expect(&rt, "search");
+    for race in search.races.as_slice() {
+        let path = path_to_race(alloc, &script, &search, *race).expect(&rt, "path");
+        match path.events.as_slice().last() {
+            Some(EventKind::Tick(dom)) => assert!(rt; dom.0 == 2),
+            _ => assert!(rt; false, "the last event is a step"),
+        }
     }
     Ok(())
 }

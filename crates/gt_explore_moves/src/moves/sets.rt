@@ -16,6 +16,32 @@ pub(super) struct LoneSet {
     pub(super) shut: Vec<bool>,
 }
 
+// A domain from which a set may grow.
+#[derive(Clone, Copy)]
+struct SetSeed {
+    place: usize,
+    // It has no open call.
+    is_at_rest: bool,
+    // The number of tasks that it has not finished.
+    left: usize,
+}
+
+impl SetSeed {
+    // Returns whether a set grows from this domain before one grows from the other.
+    fn is_before(self, other: Option<SetSeed>) -> bool {
+        match other {
+            None => true,
+            Some(other) => {
+                if self.is_at_rest == other.is_at_rest {
+                    self.left < other.left
+                } else {
+                    other.is_at_rest
+                }
+            }
+        }
+    }
+}
+
 // Returns the index of the first task that a domain has not finished: that of its open call, or the next one.
 fn first_left(actor: &Actor<'_>) -> usize
     ensures { result ≡ first_left actor.now }
@@ -391,10 +417,34 @@ impl<'s, 'a> SearchContext<'s, 'a> {
             && !matches!(self.next_move(told, place, actor), NextMove::Awaits(_))
     }
 
-    // Returns the smallest of the sets that grow from a domain that can move.
-    pub(super) fn smallest_set(&self, world: &SearchState<'a>) -> Result<LoneSet, AllocError> {
+    // Returns the domain from which the next set grows: of those that can move and were not tried, one with an open call,
+    // if there is one, and of these the one with the fewest tasks left.
+    fn next_seed(&self, world: &SearchState<'a>, tried: &[bool]) -> Option<usize> {
         let told = world.told.as_slice();
-        let mut unraised = Vec::from_slice(self.alloc, told)?;
+        let mut best: Option<SetSeed> = None;
+        for (place, actor) in world.actors.as_slice().iter().enumerate() {
+            if !is_set(tried, place) && self.can_move(told, place, actor) {
+                let seed = SetSeed {
+                    place,
+                    is_at_rest: actor.open.is_none(),
+                    left: self.task_count(place).saturating_sub(first_left(actor)),
+                };
+                if seed.is_before(best) {
+                    best = Some(seed);
+                }
+            }
+        }
+        match best {
+            Some(seed) => Some(seed.place),
+            None => None,
+        }
+    }
+
+    // Returns the smallest of the sets that grow from a domain that can move. Of two with the same size it is the one
+    // that grew from the earlier seed: a domain whose call is open moves on before another one begins a call, and one
+    // that is near its end before one that has more to do.
+    pub(super) fn smallest_set(&self, world: &SearchState<'a>) -> Result<LoneSet, AllocError> {
+        let mut unraised = Vec::from_slice(self.alloc, world.told.as_slice())?;
         for is_unraised in unraised.iter_mut() {
             *is_unraised = !*is_unraised;
         }
@@ -402,13 +452,19 @@ impl<'s, 'a> SearchContext<'s, 'a> {
             inside: Vec::new(self.alloc),
             shut: Vec::new(self.alloc),
         };
+        let mut tried = vec![in self.alloc; false; world.actors.len()]?;
         let mut most = world.actors.len().saturating_add(1);
-        for (place, actor) in world.actors.as_slice().iter().enumerate() {
-            if most > 1 && self.can_move(told, place, actor) {
-                if let Some(grown) = self.set_from(world, place, most, unraised.as_slice())? {
-                    most = size_of(grown.inside.as_slice());
-                    smallest = grown;
-                }
+        for _round in 0..world.actors.len() {
+            let Some(place) = self.next_seed(world, tried.as_slice()) else {
+                return Ok(smallest);
+            };
+            put_in(&mut tried, place);
+            if let Some(grown) = self.set_from(world, place, most, unraised.as_slice())? {
+                most = size_of(grown.inside.as_slice());
+                smallest = grown;
+            }
+            if most <= 1 {
+                return Ok(smallest);
             }
         }
         Ok(smallest)

@@ -64,7 +64,8 @@ fn fill_through<R: Wait, P: Allows>(
     }
 }
 
-// Reads `len` bytes of the frame that this access reaches.
+// Reads `len` bytes of the frame that this access reaches into fresh memory, which is not filled with zeros first.
+#[tactic(auto, using(crate::proofs::Making::accessed_same, crate::proofs::Making::viewed_same))]
 fn read_through<R: Wait, P: Allows>(
     rt: &R,
     monitor: &Monitor<P>,
@@ -87,13 +88,15 @@ fn read_through<R: Wait, P: Allows>(
     ensures unmade { OnErr result (seat.new.view ≡ seat.old.view) }
     ensures same { IsSame seat.old.view seat.new.view }
 {
-    let Ok(mut bytes) = vec![in alloc; 0; usize::from(len)] else {
+    let Ok(room) = Vec::with_capacity(alloc, usize::from(len)) else {
         return Err(not_made(AccessFault::Memory));
     };
-    match fill_through(rt, monitor, seat, access, &mut bytes) {
-        Ok(filled) => Ok(filled.with_bytes(bytes)),
-        Err(denial) => Err(denial),
-    }
+    let Spot { frame, off } = access.at;
+    let made = monitor.words.read_frame_to(rt, seat, frame, off, len, room);
+    let Some(read) = made else {
+        return Err(not_made(AccessFault::Gone));
+    };
+    Ok(read)
 }
 
 // Writes bytes to the frame that this access reaches, by the writ of its access path.

@@ -13,5 +13,5 @@ returns-clause-races c = λ is all.
     record {
       ascending = c.in_ok-races.ensures.ascending;
       each = c.in_ok-races.ensures.each;
-      all = λ whole. each-listed c.args.space.now.scene (run_contents c.args.script.now) is c.args.partial.now.found races.items c.every_order_has_turns.ensures (all whole) small said;
+      all = λ whole. each-listed c.args.space.now.scene (run_contents c.args.script.now) is c.args.partial.found races.items c.every_order_has_turns.ensures (all whole) small said;
     }

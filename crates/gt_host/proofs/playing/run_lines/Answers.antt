@@ -1,5 +1,5 @@
-use Rattle.std.proofs.Common.{◌≡◌, ◌<◌, ◌∙◌, length, refl, arith}
-use Rattle.gt_script.specs.Contents.{contents_of}
+use Rattle.std.proofs.Common.{◌≡◌, ◌<◌, ◌∙◌, ap, length, refl, arith}
+use Rattle.gt_script.specs.Contents.{KeptContents, contents_of, type_names}
 use Rattle.gt_script_runs.specs.Rights.{may_by}
 use Rattle.gt_script_runs.proofs.StartLemmas.{same_setting}
 use Rattle.gt_text.specs.Laws.{keeps_same}
@@ -25,7 +25,7 @@ returns-in_err-send-clause-beginning g c =
     let within : c.steps.step-index < length c.steps-steps.result.now = omega arith in
     let setting = same_setting may_by _ _ _ _ c.steps.invariant.0 c.steps.invariant.1 ∙ same_setting_of_script (contents_of c.args.script.now) c.args.core.now c.requires.starts in
     OnErr-all _ _ (begins_step (contents_of c.args.script.now) c.args.audit _ c.as_slice.result.now c.steps-steps.result.now c.steps.step-index c.step-item.result c.steps.core.state c.run_step.new.core.state c.steps.kept c.run_step.new.kept _ _ _ _ _
-    setting c.steps-steps.ensures c.steps.invariant.2 within c.step-item.is (c.as_slice.ensures.value ∙ c.in_ok-types.ensures) c.in_ok-run_step.ensures.leads c.in_err-send.ensures.err)
+    setting c.steps-steps.ensures c.steps.invariant.2 within c.step-item.is (c.as_slice.ensures.value ∙ c.in_ok-types.ensures ∙ ap (λ (k : KeptContents). type_names (contents_of k)) c.head-head.ensures) c.in_ok-run_step.ensures.leads c.in_err-send.ensures.err)
 
 pub steps-preserved : goal.steps-preserved
 steps-preserved g c =
@@ -34,7 +34,7 @@ steps-preserved g c =
       c.run_step.ensures.config ∙ c.steps.invariant.0,
       c.run_step.ensures.rights ∙ c.steps.invariant.1,
       goes_on (contents_of c.args.script.now) c.args.audit _ c.as_slice.result.now c.steps-steps.result.now c.steps.step-index c.step-item.result c.steps.core.state c.run_step.new.core.state c.steps.kept c.run_step.new.kept _ _ _ _ _ _
-          setting c.steps.invariant.2 within c.step-item.is (c.as_slice.ensures.value ∙ c.in_ok-types.ensures) c.in_ok-run_step.ensures.leads c.in_ok-send.ensures.ok,
+          setting c.steps.invariant.2 within c.step-item.is (c.as_slice.ensures.value ∙ c.in_ok-types.ensures ∙ ap (λ (k : KeptContents). type_names (contents_of k)) c.head-head.ensures) c.in_ok-run_step.ensures.leads c.in_ok-send.ensures.ok,
       c.in_ok-send.ensures.few,
     )
 
@@ -56,13 +56,13 @@ returns-in_err-push_lines-clause-beginning g c =
 pub returns-clause-whole : goal.returns-clause-whole
 returns-clause-whole g c =
     let all : c.steps.step-index ≡ length c.steps-steps.result.now = omega arith in
-    ends (contents_of c.args.script.now) c.args.audit c.steps-steps.result.now c.steps.step-index c.steps.core.state c.steps.kept c.domains.result.now c.as_slice-2.result.now _ _ _ _ _ _ c.steps-steps.ensures all c.domains.ensures (c.as_slice-2.ensures.value ∙ c.in_ok-types.ensures) c.in_ok-push_open_lines.ensures c.in_ok-push_lines.ensures c.steps.invariant.2
+    ends (contents_of c.args.script.now) c.args.audit c.steps-steps.result.now c.steps.step-index c.steps.core.state c.steps.kept c.domains.result.now c.as_slice-2.result.now _ _ _ _ _ _ c.steps-steps.ensures all (c.domains.ensures ∙ ap (λ (k : KeptContents). k.domains) c.head-head.ensures) (c.as_slice-2.ensures.value ∙ c.in_ok-types.ensures ∙ ap (λ (k : KeptContents). type_names (contents_of k)) c.head-head.ensures) c.in_ok-push_open_lines.ensures c.in_ok-push_lines.ensures c.steps.invariant.2
     (rw c.as_slice-3.ensures.value at c.in_ok-finish.ensures.whole)
 
 pub returns-in_err-finish-clause-beginning : goal.returns-in_err-finish-clause-beginning
 returns-in_err-finish-clause-beginning g c =
     let all : c.steps.step-index ≡ length c.steps-steps.result.now = omega arith in
-    OnErr-all _ _ (begins_end (contents_of c.args.script.now) c.args.audit c.steps-steps.result.now c.steps.step-index c.steps.core.state c.steps.kept c.domains.result.now c.as_slice-2.result.now _ _ _ _ _ _ c.steps-steps.ensures all c.domains.ensures (c.as_slice-2.ensures.value ∙ c.in_ok-types.ensures) c.in_ok-push_open_lines.ensures c.in_ok-push_lines.ensures c.steps.invariant.2
+    OnErr-all _ _ (begins_end (contents_of c.args.script.now) c.args.audit c.steps-steps.result.now c.steps.step-index c.steps.core.state c.steps.kept c.domains.result.now c.as_slice-2.result.now _ _ _ _ _ _ c.steps-steps.ensures all (c.domains.ensures ∙ ap (λ (k : KeptContents). k.domains) c.head-head.ensures) (c.as_slice-2.ensures.value ∙ c.in_ok-types.ensures ∙ ap (λ (k : KeptContents). type_names (contents_of k)) c.head-head.ensures) c.in_ok-push_open_lines.ensures c.in_ok-push_lines.ensures c.steps.invariant.2
     (rw c.as_slice-3.ensures.value at c.in_err-finish.ensures.beginning))
 
 pub returns-in_err-types-clause-beginning : goal.returns-in_err-types-clause-beginning

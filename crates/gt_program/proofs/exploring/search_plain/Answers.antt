@@ -1,6 +1,6 @@
 use Rattle.std.proofs.Common.{subst, sym}
 use Rattle.gt_explore_claims.specs.Exploring.{ClaimsExplored}
-use Rattle.gt_program.specs.Obeying.{MovesExplored, RacesSearched, SearchesPlain, SummaryExplored}
+use Rattle.gt_program.specs.Obeying.{MovesExplored, SearchesPlain, SummaryExplored}
 use Rattle.gt_program.specs.declared.exploring.SearchAsked.{SearchAsked}
 use Rattle.gt_program.proofs.Obeyed.{explored_so}
 use Rattle.gt_program.proofs.exploring.search_plain.Goals as goal
@@ -27,5 +27,5 @@ returns-in-Moment g c = λ all e.
 
 pub returns-in-Races : goal.returns-in-Races
 returns-in-Races g c = λ all e.
-    subst (λ (a : SearchAsked). SearchesPlain a all (g.W.Write.contents c.args.out.now) (g.W.Write.contents c.races_asked-raced.new.out) c.explored_ending-in-Races.result) (sym c.in-Races.is)
-    (explored_so (RacesSearched c.in-Races.states all (g.W.Write.contents c.args.out.now) (g.W.Write.contents c.races_asked-raced.new.out)) _ _ c.explored_ending-in-Races.ensures (c.races_asked-raced.ensures all e))
+    subst (λ (a : SearchAsked). SearchesPlain a all (g.W.Write.contents c.args.out.now) (g.W.Write.contents c.search_races.new.out) c.search_races.result) (sym c.in-Races.is)
+    (c.search_races.ensures all e)

@@ -10,7 +10,7 @@ returns-in_default c = block_open c.args.command c.args.count c.args.first (text
 
 pub returns-in-Ok : goal.returns-in-Ok
 returns-in-Ok c =
-    block_rest c.args.command c.args.count c.args.first c.in-Some.end c.args.lines.now (allowed_of c.in-Ok.policy) (contents_of c.with_policy-script.result) c.with_rest.result (sym c.in-Some.is ∙ c.in_ok-end.ensures.closes) c.in-Ok.ensures c.with_policy-script.ensures c.with_rest.ensures
+    block_rest c.args.command c.args.count c.args.first c.in-Some.end c.args.lines.now (allowed_of c.in-Ok.policy) (contents_of c.new-script.result) c.with_rest.result (sym c.in-Some.is ∙ c.in_ok-end.ensures.closes) c.in-Ok.ensures c.new-script.ensures c.with_rest.ensures
 
 pub returns-in-Err : goal.returns-in-Err
 returns-in-Err c = block_faulty c.args.command c.args.count c.args.first c.in-Some.end c.args.lines.now c.in-Err.error (sym c.in-Some.is ∙ c.in_ok-end.ensures.closes) c.in-Err.ensures

@@ -1,8 +1,10 @@
-use Rattle.gt_script.specs.Contents.{contents_of}
-use Rattle.gt_script.proofs.RunLemmas.{says-run}
+use Rattle.std.proofs.Common.{ap, ◌∙◌}
+use Rattle.gt_script.specs.Contents.{KeptContents}
+use Rattle.gt_script.proofs.RunLemmas.{known-in}
 use Rattle.gt_script.proofs.run_script.of_script.Goals as goal
 
-pub returns-in-Ok : goal.returns-in-Ok
-returns-in-Ok c =
-    says-run (contents_of c.args.script) (contents_of c.take_named_tasks-named_tasks.new.self) c.take_named_tasks-named_tasks.result.items c.domains.result.now c.in-Ok.tasks.items c.in-Ok.flags c.take_named_tasks-named_tasks.ensures.named_tasks c.take_named_tasks-named_tasks.ensures.head c.domains.ensures
-    c.in-Ok.ensures.tasks c.in-Ok.ensures.flags c.in-Ok.ensures.end
+pub stuck_line-requires-clause-known : goal.stuck_line-requires-clause-known
+stuck_line-requires-clause-known c =
+    known-in c.as_slice-2.result.now c.args.script.domains c.as_slice.result.now c.args.script.tasks
+    (c.as_slice-2.ensures.value ∙ ap (λ (k : KeptContents). k.domains) c.head.view_is ∙ ap (λ (k : KeptContents). k.domains) c.script.view_is)
+    (c.as_slice.ensures.value ∙ ap (λ (k : KeptContents). k.tasks) c.script.view_is) c.requires.known

@@ -1,9 +1,12 @@
 use Rattle.gt_script.specs.Contents.{contents_of}
-use Rattle.gt_script.proofs.RunLemmas.{run-tells, fault-tells, ordered, head-configures, flags-numbered}
+use Rattle.gt_script.proofs.RunLemmas.{run-tells, fault-tells, tasks-known, tasks-numbered, head-configures, flags-numbered}
 use Rattle.gt_script.proofs.run_script.parse_run.Goals as goal
 
-pub of_script-requires : goal.of_script-requires
-of_script-requires c = ordered _ (contents_of c.in-Ok.script) c.in-Ok.ensures.holds
+pub of_script-requires-clause-numbered : goal.of_script-requires-clause-numbered
+of_script-requires-clause-numbered c = tasks-numbered _ (contents_of c.in-Ok.script) c.in-Ok.ensures.holds
+
+pub of_script-requires-clause-known : goal.of_script-requires-clause-known
+of_script-requires-clause-known c = tasks-known _ (contents_of c.in-Ok.script) c.in-Ok.ensures.holds
 
 pub returns-in-Ok-clause-script : goal.returns-in-Ok-clause-script
 returns-in-Ok-clause-script c = run-tells c.args.bytes.now (contents_of c.in-Ok.script) c.of_script.result c.in-Ok.ensures.script c.of_script.ensures
@@ -12,7 +15,7 @@ pub returns-in-Ok-clause-holds : goal.returns-in-Ok-clause-holds
 returns-in-Ok-clause-holds c = head-configures _ (contents_of c.in-Ok.script) c.of_script.result c.in-Ok.ensures.holds c.of_script.ensures
 
 pub returns-in-Ok-clause-numbered : goal.returns-in-Ok-clause-numbered
-returns-in-Ok-clause-numbered c = flags-numbered (contents_of c.in-Ok.script) c.of_script.result c.of_script.ensures
+returns-in-Ok-clause-numbered c = flags-numbered _ (contents_of c.in-Ok.script) c.of_script.result c.in-Ok.ensures.holds c.of_script.ensures
 
 pub returns-in-Ok-clause-beginning : goal.returns-in-Ok-clause-beginning
 returns-in-Ok-clause-beginning c = λ all e. run-tells all (contents_of c.in-Ok.script) c.of_script.result (c.in-Ok.ensures.beginning all e) c.of_script.ensures

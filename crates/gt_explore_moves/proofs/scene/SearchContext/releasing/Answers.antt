@@ -16,7 +16,7 @@ returns-in-Open c = λ s h tasks k handle show short table dom rest held.
     given-line s h tasks k c.args.self.now c.args.actor.now c.args.table.now c.args.dom c.in_ok-names.names c.args.choice handle dom show short table
     (subst (λ (ms : List LabelledMapping). ArePlaced c.args.dom ms c.in_ok-names.names) c.as_slice.ensures.value c.in_ok-names.ensures) rest held
     c.in-Some.handle c.in-Open.call c.in-Open.step (ap (λ (l : List Handle). slice_get l c.args.choice) (sym c.deref.ensures.value) ∙ here)
-    (λ z alike. subst (OpensSo z c.args.dom (Release c.in-Some.handle)) c.in-Open.is (c.opening.ensures z alike))
+    (λ z alike. subst (OpensSo z c.args.dom (Release c.in-Some.handle)) c.in-Open.is (c.in_ok-opened.ensures z alike))
 
 pub returns : goal.returns
 returns c = λ s h tasks k handle show short table dom rest held.
@@ -25,4 +25,4 @@ returns c = λ s h tasks k handle show short table dom rest held.
     given-open s h tasks k c.args.self.now c.args.actor.now c.args.table.now c.args.dom c.in_ok-names.names c.args.choice handle dom show short table
     (subst (λ (ms : List LabelledMapping). ArePlaced c.args.dom ms c.in_ok-names.names) c.as_slice.ensures.value c.in_ok-names.ensures) rest held
     c.in-Some.handle c.in-Done.field-0 (ap (λ (l : List Handle). slice_get l c.args.choice) (sym c.deref.ensures.value) ∙ here)
-    (λ z alike. subst (OpensSo z c.args.dom (Release c.in-Some.handle)) c.in-Done.is (c.opening.ensures z alike))
+    (λ z alike. subst (OpensSo z c.args.dom (Release c.in-Some.handle)) c.in-Done.is (c.in_ok-opened.ensures z alike))

@@ -30,10 +30,10 @@ returns-in-Step c = λ s h before k j a i tick leads actors made.
     let y = c.in-Some-get.table.now in let e = c.in-Some-get.ensures.lookup in
     let table : slice_get w.ground.tables.items at ≡ Some y = ap (λ (l : List SparseTable). slice_get l at) (sym c.deref.ensures.value) ∙ at-found c.deref.result.now at y e.0 e.1 in
     let u = tick-is s h scene before at k a o i tick in
-    let goes = c.next-action.ensures.along s h k.dom u.call u.step (along s h scene before at k a o i tick) (below s h scene before at k a o i tick) (rising s h scene before at k a o i tick)
+    let goes = c.in_ok-went.ensures s h k.dom u.call u.step (along s h scene before at k a o i tick) (below s h scene before at k a o i tick) (rising s h scene before at k a o i tick)
     u.right.continues (made.saw ∙ same-seen s h scene before at k a o i tick) (still-knows s h scene before at k a o i tick w.ground.tables.items y made.tables_show table) in
-    goes-on s h scene before at k a o i tick scene.types.items j leads c.next-action.result.0 c.in-Step.step
-    (subst (λ (z : Action). GoesOnAsRun s h k.dom u.call u.step o.task c.next-action.result.0 z) c.in-Step.is goes) c.args.seen w _ _ made refl refl refl
+    goes-on s h scene before at k a o i tick scene.types.items j leads c.in_ok-went.went.0 c.in-Step.step
+    (subst (λ (z : Action). GoesOnAsRun s h k.dom u.call u.step o.task c.in_ok-went.went.0 z) c.in-Step.is goes) c.args.seen w _ _ made refl refl refl
     (ap (λ (z : Actor). z.next) (c.make.ensures.rest ∙ ap (λ (z : Actor). record z { mappings = c.make.new.self.mappings }) same))
     (c.make.ensures.mappings ∙ ap (λ (z : Actor). mappings_after o.step z.mappings.items) same) refl
 
@@ -45,11 +45,11 @@ returns-in-Done c = λ s h before k j a i tick leads actors made.
     let y = c.in-Some-get.table.now in let e = c.in-Some-get.ensures.lookup in
     let table : slice_get w.ground.tables.items at ≡ Some y = ap (λ (l : List SparseTable). slice_get l at) (sym c.deref.ensures.value) ∙ at-found c.deref.result.now at y e.0 e.1 in
     let u = tick-is s h scene before at k a o i tick in
-    let goes = c.next-action.ensures.along s h k.dom u.call u.step (along s h scene before at k a o i tick) (below s h scene before at k a o i tick) (rising s h scene before at k a o i tick)
+    let goes = c.in_ok-went.ensures s h k.dom u.call u.step (along s h scene before at k a o i tick) (below s h scene before at k a o i tick) (rising s h scene before at k a o i tick)
     u.right.continues (made.saw ∙ same-seen s h scene before at k a o i tick) (still-knows s h scene before at k a o i tick w.ground.tables.items y made.tables_show table) in
     let here = get-set w.actors.items at a m there in
     call-over s h scene before at k a o i tick scene.types.items j c.args.seen w (record { actors = with_item w.actors at m; ground = w.ground; told = w.told }) c.close.new.world c.close.result c.in-Done.verdict m
-    (subst (λ (z : Action). GoesOnAsRun s h k.dom u.call u.step o.task c.next-action.result.0 z) c.in-Done.is goes)
+    (subst (λ (z : Action). GoesOnAsRun s h k.dom u.call u.step o.task c.in_ok-went.went.0 z) c.in-Done.is goes)
     (ap (λ (z : Actor). z.next) (c.make.ensures.rest ∙ ap (λ (z : Actor). record z { mappings = c.make.new.self.mappings }) same))
     (c.make.ensures.mappings ∙ ap (λ (z : Actor). mappings_after o.step z.mappings.items) same) made refl refl refl leads
     (λ place t task found. c.close.ensures.line (i ∷ h) m place t here made.pages_show (step-of s h scene before at k a o i tick).reads task found)

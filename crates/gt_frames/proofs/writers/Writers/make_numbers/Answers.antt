@@ -8,10 +8,10 @@ pub returns-in_ok-self-clause-sound : goal.returns-in_ok-self-clause-sound
 returns-in_ok-self-clause-sound c =
     let zeros : c.in_ok-self.field-0.items ≡ replicate FRAME_SIZE 0 = search rules in
     let none : length c.args.self.now.below.items ≡ 0 = omega (arith, eqb-true _ _ (sym c.is_empty.ensures ∙ c.if-is_empty.true)) in
-    sound_zeros c.args.self.now (record c.args.self.now { below = c.in_ok-self.field-0 }) refl refl refl c.requires refl zeros none
+    sound_zeros c.args.self.now (record c.args.self.now { below = c.in_ok-self.field-0 }) refl refl refl refl refl c.requires refl zeros none
 
 pub returns-in_ok-self-clause-same : goal.returns-in_ok-self-clause-same
 returns-in_ok-self-clause-same c =
     let zeros : c.in_ok-self.field-0.items ≡ replicate FRAME_SIZE 0 = search rules in
     let none : length c.args.self.now.below.items ≡ 0 = omega (arith, eqb-true _ _ (sym c.is_empty.ensures ∙ c.if-is_empty.true)) in
-    shows_zeros c.args.self.now (record c.args.self.now { below = c.in_ok-self.field-0 }) refl refl refl c.requires refl zeros none
+    shows_zeros c.args.self.now (record c.args.self.now { below = c.in_ok-self.field-0 }) refl refl refl refl refl c.requires refl zeros none

@@ -16,4 +16,5 @@ returns-clause-sound c =
       places = search rules;
       few = search rules;
       looks = omega arith;
+      last = record { has = λ lt. absurd (omega (arith, lt)); len = λ lt. absurd (omega (arith, lt)) };
     }

@@ -14,4 +14,4 @@ compiled k p table said same =
     ∙ ap (λ (o : Option policies.KeptPolicy). may_with (option_map policies.allowed_of o) k.triples) said
 
 pub returns-in-Some : goal.returns-in-Some
-returns-in-Some c = compiled c.args.script.now c.in-Some.policy.now c.in_ok-compile.field-0 c.in-Some.ensures c.in_ok-compile.ensures
+returns-in-Some c = compiled c.args.head.now c.in-Some.policy.now c.in_ok-compile.field-0 c.in-Some.ensures c.in_ok-compile.ensures

@@ -1,0 +1,9 @@
+pub mod Counts
+pub mod EachFound
+pub mod Finding
+pub mod Held
+pub mod NotesRead
+pub mod OrderedRuns
+pub mod PlacedCalls
+pub mod Reading
+pub mod StateMarks

@@ -1,5 +1,0 @@
-use Rattle.std.proofs.Common.{◌≡◌, take}
-use Rattle.gt_script.proofs.script.copies.Given as goal
-
-abbrev pub invariant-names : goal.invariant-names
-invariant-names l = l.copies.items ≡ take l.name-index l.names

@@ -1,5 +1,0 @@
-use Rattle.std.proofs.Common.{◌≡◌, take}
-use Rattle.gt_script.proofs.script.names_of.Given as goal
-
-abbrev pub invariant-types : goal.invariant-types
-invariant-types l = l.names.items ≡ take l.id l.policy.types
