@@ -2,6 +2,7 @@
 """Runs each plain command line of cases_program as a process of the built program gthost, and compares what it writes
 and its exit status with what that program stores. The program of Rattle's own compiler runs one line of each status.
 Then it tries each kind of fault line: the line goes to the standard error, and nothing to the standard output.
+It also explores each script that a command line runs in threads: if that had two texts, its stored one would be a race.
 
 usage: tools/processes.py [PROGRAM]        the program; crates/gthost/out/gthost if it is left out
 """
@@ -96,6 +97,20 @@ def faults(program):
     return len(FAULTS) + 8, wrong
 
 
+def raced(program, blocks):
+    """Returns how many scripts are run in threads, and how many of them have more than one text, and says which."""
+    ran = [line.split(" ") for line, _, status in blocks if line.startswith("gthost run ") and status == 0]
+    files = sorted({os.path.normpath(word) for words in ran for word in words if word.endswith(".gt")})
+    wrong = 0
+    for file in files:
+        how = {"stdin": subprocess.DEVNULL, "stdout": subprocess.PIPE, "cwd": f"{CASES}/data", "text": True}
+        texts = subprocess.run([program, "explore", file], timeout=120, check=False, **how).stdout
+        if not texts.startswith("text 1 of 1\n"):
+            print(f"wrong: gthost run {file} is stored, and what it prints depends on the order of its threads")
+            wrong += 1
+    return len(files), wrong
+
+
 def main(program):
     os.chdir(os.path.join(os.path.dirname(os.path.abspath(__file__)), ".."))
     program = os.path.abspath(program)
@@ -110,9 +125,11 @@ def main(program):
             for line, text, status in first.values():
                 wrong += differs(other, line, text, status, subprocess.DEVNULL)
     tried, missed = faults(program)
-    wrong += missed
-    print(f"{len(blocks)} command lines and {tried} faults as processes, statuses {sorted(first)}: {wrong} wrong")
-    return 1 if wrong or sorted(first) != [0, 1, 2] else 0
+    runs, races = raced(program, blocks)
+    wrong += missed + races
+    ways = f"{len(blocks)} command lines and {tried} faults as processes, statuses {sorted(first)}, {runs} scripts that run"
+    print(f"{ways}: {wrong} wrong")
+    return 1 if wrong or sorted(first) != [0, 1, 2] or not runs else 0
 
 
 if __name__ == "__main__":
