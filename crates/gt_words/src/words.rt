@@ -210,6 +210,19 @@ impl Words {
         position
     }
 
+    // Finds the position of a domain for one step, and keeps the domain as the one looked up last. The compiler then
+    // sees that the next step on it has the same position, and doesn't compare the domains again.
+    #[inline(always)]
+    fn position_for_step(&self, seat: &mut Seat, dom: DomId) -> usize
+        requires { IsSeatOf self.now seat.old }
+        ensures position { result ≡ position_at self.now dom }
+        ensures seat { seat.new ≡ seat.old }
+    {
+        let at = self.position(seat, dom);
+        seat.found = DomainPosition { dom, position: at };
+        at
+    }
+
     /// Loads the header word of a domain: its table's version and number of frames.
     pub fn load_header(&self, seat: &mut Seat, dom: DomId) -> u64
         requires seat { IsSeatOf self.now seat.old }
@@ -218,7 +231,7 @@ impl Words {
         ensures fits { IsSeatOf self.now seat.new }
         ensures look { LooksAtHeader self.now.layout (position_at self.now dom) result seat.old.view seat.new.view }
     {
-        let at = self.position(seat, dom);
+        let at = self.position_for_step(seat, dom);
         self.load_header_at(seat, dom, at)
     }
 
@@ -277,7 +290,7 @@ impl Words {
             seat.old.view seat.new.view }
         ensures own { dom ≡ seat.old.dom → IsWordOf (last_of gref.0 seat.new.view) result }
     {
-        let at = self.position(seat, dom);
+        let at = self.position_for_step(seat, dom);
         self.load_control_at(seat, dom, gref, at)
     }
 
@@ -290,7 +303,7 @@ impl Words {
         ensures look { LooksAtBody self.now.layout (position_at self.now dom) gref.0 body_word result
             seat.old.view seat.new.view }
     {
-        let at = self.position(seat, dom);
+        let at = self.position_for_step(seat, dom);
         self.load_body_at(seat, dom, gref, body_word, at)
     }
 
@@ -319,7 +332,7 @@ impl Words {
             seat.old.view seat.new.view) }
         ensures counted { CountsPins self.now.layout (position_at self.now dom) gref.0 dir }
     {
-        let at = self.position(seat, dom);
+        let at = self.position_for_step(seat, dom);
         let pin = Pin {
             dom,
             gref,
