@@ -18,6 +18,10 @@ const FIRST_MAPPER: u16 = 3;
 /// The number of rounds after which records are taken.
 const BEFORE_TAKEN: u32 = 128;
 
+/// The bytes before and behind a thread's buffer that nothing uses: two cache lines, since a processor fetches them in
+/// pairs.
+const UNUSED: usize = 128;
+
 /// This number of entries, starting at the first, with this distance.
 #[derive(Clone, Copy)]
 pub(crate) struct Spread {
@@ -252,8 +256,8 @@ fn move_often<R: Wait, D: Calls>(
     }
 }
 
-// Does the same with a buffer of the thread's own, so that no two threads share a cache line. Loads and stores go
-// through a mapping. If the records are taken, they are taken after each part of the accesses.
+// Does the same with a buffer that only the thread uses, and that lies in no cache line of another one's. Loads and
+// stores go through a mapping. If the records are taken, they are taken after each part of the accesses.
 fn move_bytes<R: Wait, D: Calls>(
     rt: &R,
     alloc: Global,
@@ -263,7 +267,8 @@ fn move_bytes<R: Wait, D: Calls>(
     rounds: u32,
 ) -> u32 {
     let Accesses { moves, gref, len } = accesses;
-    let Ok(mut buffer) = vec![in alloc; 0x5au8; usize::from(len)] else {
+    let end = UNUSED + usize::from(len);
+    let Ok(mut block) = vec![in alloc; 0x5au8; end + UNUSED] else {
         return 0;
     };
     let maps = !matches!(moves, Moves::Copies | Moves::Forwards);
@@ -281,7 +286,7 @@ fn move_bytes<R: Wait, D: Calls>(
             break;
         }
         left -= part;
-        let buffer = buffer.as_mut_slice();
+        let buffer = &mut block.as_mut_slice()[UNUSED..end];
         done = done.saturating_add(move_often(rt, domain, moves, &copy, buffer, part));
         if takes {
             taken = domain.take_records(taken);
