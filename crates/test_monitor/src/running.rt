@@ -255,6 +255,8 @@ impl<'m, P: Allows> TestDomain<'m, P> {
 }
 
 impl<'m, P: Allows> Calls for TestDomain<'m, P> {
+    // It is inlined, as the compiler does with the other calls. Otherwise each grant would write out a refusal's place.
+    #[inline(always)]
     fn grant(&mut self, gref: u32, entry: &Entry) -> Result<(), Denial> {
         self.domain.grant(self.monitor, GrantRef(gref), entry)
     }
