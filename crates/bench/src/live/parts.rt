@@ -271,6 +271,7 @@ fn move_bytes<R: Wait, D: Calls>(
     let Ok(mut block) = vec![in alloc; 0x5au8; end + UNUSED] else {
         return 0;
     };
+    let buffer = &mut block.as_mut_slice()[UNUSED..end];
     let maps = !matches!(moves, Moves::Copies | Moves::Forwards);
     if maps && map_and_unmap(domain, gref, WRITABLE, true, 1) == 0 {
         return 0;
@@ -286,7 +287,6 @@ fn move_bytes<R: Wait, D: Calls>(
             break;
         }
         left -= part;
-        let buffer = &mut block.as_mut_slice()[UNUSED..end];
         done = done.saturating_add(move_often(rt, domain, moves, &copy, buffer, part));
         if takes {
             taken = domain.take_records(taken);
