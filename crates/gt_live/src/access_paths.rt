@@ -161,9 +161,8 @@ fn reach_source<P: Allows>(
 }
 
 // Walks to the granted destination of a copy, after its source, and writes the access path to it, whose pins were taken.
-// It is inlined: a call would return its refusal through memory, and write the pins there and read them back.
-#[inline(always)]
-fn reach_dest<P: Allows>(
+#[inline(never)]
+fn reach_granted<P: Allows>(
     words: &Words,
     known: &CallerState<'_, P>,
     seat: &mut Seat,
@@ -206,6 +205,29 @@ fn reach_dest<P: Allows>(
             Ok(())
         }
     }
+}
+
+// Walks to the destination of a copy like the function above, which is not inlined. This one is, so that only such a copy
+// makes room for the refusal.
+#[inline(always)]
+fn reach_dest<P: Allows>(
+    words: &Words,
+    known: &CallerState<'_, P>,
+    seat: &mut Seat,
+    caller: DomId,
+    copy: &CopyArgs,
+    pins: &mut CallPins,
+) -> Result<(), Denial>
+    requires seat { IsSeatOf words.now seat.old }
+    requires can { CanRun (knows P.may known.now) words.now.layout caller
+        (dest_leg (knows P.may known.now) caller copy.now pins.old.source) seat.old.view }
+    ensures seat { IsSameSeat seat.old seat.new }
+    ensures source { pins.new.source ≡ pins.old.source }
+    ensures goes { Runs (knows P.may known.now) words.now.layout caller
+        (dest_leg (knows P.may known.now) caller copy.now pins.old.source) seat.old.view
+        (after_dest copy.now pins.old.source (filled result pins.new.dest)) seat.new.view }
+{
+    reach_granted(words, known, seat, caller, copy, pins)
 }
 
 /// The domain that makes a copy, and whether its destination is reached by a grant. If that is a constant, a copy to a

@@ -215,8 +215,8 @@ impl Domain {
         give_back(&monitor.words, &mut self.seat, pins)
     }
 
-    // Copies to a granted page, without a record. It is a separate function: in one with the next, a copy to a frame of
-    // the caller would save the registers and make the room that only the walk to a granted page needs.
+    // Copies to a granted page, without a record. It is a separate function: its pins are in memory for the walk to its
+    // destination, and in one function a copy to a frame of the caller would keep its pins there too.
     #[inline(never)]
     fn make_copy_to_grant<R: Wait, P: Allows>(
         &mut self,

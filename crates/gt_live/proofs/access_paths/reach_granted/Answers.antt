@@ -9,7 +9,7 @@ use Rattle.gt_calls.specs.Known.{knows}
 use Rattle.gt_live.specs.Copies.{after_dest, dest_leg}
 use Rattle.gt_live.proofs.Phases.{can-then, runs-then}
 use Rattle.gt_live.proofs.Reaching.{no-via, dest-can, dest-reached, dest-refused, dest-via}
-use Rattle.gt_live.proofs.access_paths.reach_dest.Goals as goal
+use Rattle.gt_live.proofs.access_paths.reach_granted.Goals as goal
 
 pub walk_leg-requires-clause-can : goal.walk_leg-requires-clause-can
 walk_leg-requires-clause-can g c =
