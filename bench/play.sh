@@ -1,6 +1,7 @@
 #!/usr/bin/env bash
-# Times `gthost play` on scripts of 10,000, 20,000 and 40,000 lines: prints lines and seconds. Twice
-# the lines should take at most 2.2 times as long.
+# Times `gthost play` on scripts of 10,000, 20,000 and 40,000 lines, and on one of as many lines as a
+# script may have bytes for, 1 MiB: prints lines and seconds. Twice the lines should take at most 2.2
+# times as long.
 #
 # `bench/play.sh [RUNS]` prints the least time of so many runs (5). Where the machine has other work,
 # `PRIORITY='chrt -f 1' bench/play.sh` runs the program before it. PROGRAM=FILE takes the built program gthost.
@@ -66,6 +67,9 @@ for lines in 10000 20000 40000; do
   script "$lines" >"$work/$lines.gt"
   printf '%8s  %s\n' "$lines" "$(least "$work/$lines.gt")"
 done
+script 60000 >"$work/longer.gt"
+head -c 1048576 "$work/longer.gt" | sed '$d' >"$work/longest.gt"
+printf '%8s  %s\n' "$(wc -l <"$work/longest.gt")" "$(least "$work/longest.gt")"
 
 # A script of so many lines of copies.
 copies() {
