@@ -19,17 +19,14 @@ use gt_model::{
 };
 use gt_types::{Allows, CopyArgs, Denial, DomId, Facts, GrantRef, Range, Rule, Size, Use};
 
-// Builds the end of a call that releases these pins.
-pub(crate) fn ending(pins: CallPins, verdict: CallResult) -> Phase
-    ensures { result ≡ Phase.Ending pins verdict }
-{
-    Phase::Ending { pins, verdict }
-}
-
+// Builds the end of a call that holds no pins.
 pub(crate) fn ended(verdict: CallResult) -> Phase
     ensures { result ≡ ended_as verdict }
 {
-    ending(NO_PINS, verdict)
+    Phase::Ending {
+        pins: NO_PINS,
+        verdict,
+    }
 }
 
 // Builds the end of a call by a word that it found in an entry of the caller's own.
@@ -181,23 +178,6 @@ fn asking(caller: DomId, dom: DomId, question: HeaderQuery) -> Phase
     }
 }
 
-// Builds a map before its leg.
-fn mapping<P: Allows>(
-    known: &CallerState<'_, P>,
-    caller: DomId,
-    dom: DomId,
-    gref: GrantRef,
-    flags: u32,
-) -> Phase
-    ensures { result ≡ first_phase (knows P.may known.now) caller (OpenRequest.Map dom gref flags) }
-{
-    Phase::Walking {
-        pin_purpose: PinPurpose::Mapping,
-        leg: map_leg(known, caller, dom, gref, flags),
-        at: LegPhase::Header,
-    }
-}
-
 // Writes the first phase of a copy. Separate, so that only copies pay for the stack space.
 #[inline(never)]
 fn begin_copy<P: Allows>(
@@ -226,7 +206,10 @@ pub(crate) fn pass_access(phase: &mut Phase)
     ensures { phase.new ≡ unaccessed phase.old }
 {
     if let Phase::Accessing { source, dest, .. } = phase {
-        *phase = ending(by_access_paths(source, dest), CallResult::Granted);
+        *phase = Phase::Ending {
+            pins: by_access_paths(source, dest),
+            verdict: CallResult::Granted,
+        };
     }
 }
 
@@ -240,7 +223,13 @@ pub(crate) fn set_first<P: Allows>(
     ensures { phase.new ≡ first_phase (knows P.may known.now) caller request.now }
 {
     match *request {
-        OpenRequest::Map { dom, gref, flags } => *phase = mapping(known, caller, dom, gref, flags),
+        OpenRequest::Map { dom, gref, flags } => {
+            *phase = Phase::Walking {
+                pin_purpose: PinPurpose::Mapping,
+                leg: map_leg(known, caller, dom, gref, flags),
+                at: LegPhase::Header,
+            };
+        }
         OpenRequest::Unmap { handle } | OpenRequest::Release { handle } => {
             begin_unmap(held_at(known, handle), handle, phase)
         }

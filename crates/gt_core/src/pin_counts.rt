@@ -1,7 +1,4 @@
 //! What the core keeps of an entry, besides what its owner knows.
-ghost use Rattle.std.specs.Prelude.{◌≡◌, ◌≤◌, ◌+◌, min};
-ghost use Rattle.gt_core.specs.Effects.{slot_after};
-
 use gt_calls::BodyWord;
 use gt_types::{Dir, MAX_PINS};
 use std::marker::Model;
@@ -9,10 +6,10 @@ use std::marker::Model;
 /// The pins and body words of an entry.
 #[derive(Clone, Copy)]
 pub struct PinCounts {
-    reads: u16,
-    writes: u16,
-    first: u64,
-    second: u64,
+    pub(crate) reads: u16,
+    pub(crate) writes: u16,
+    pub(crate) first: u64,
+    pub(crate) second: u64,
 }
 
 impl Model for PinCounts {
@@ -38,9 +35,8 @@ pub enum CountsChange {
 }
 
 impl PinCounts {
-    ghost use Rattle.std.specs.Prelude.{◌≡◌, ◌≤◌, Some};
+    ghost use Rattle.std.specs.Prelude.{◌≡◌};
     ghost use Rattle.gt_core.specs.Effects.{slot_after};
-    ghost use Rattle.gt_core.specs.Sight.{slot_body};
 
     /// Returns no pins, and zero for both body words.
     pub fn new() -> PinCounts
@@ -54,40 +50,14 @@ impl PinCounts {
         }
     }
 
-    /// Returns the number of read pins, at most [`MAX_PINS`].
-    pub fn reads(self) -> u16
-        ensures value { result ≡ self.reads }
-        ensures bound { result ≤ MAX_PINS }
-    {
-        self.reads
-    }
-
-    /// Returns the number of write pins, at most [`MAX_PINS`].
-    pub fn writes(self) -> u16
-        ensures value { result ≡ self.writes }
-        ensures bound { result ≤ MAX_PINS }
-    {
-        self.writes
-    }
-
-    /// Returns one of the body words.
-    pub fn body(self, body_word: BodyWord) -> u64
-        ensures { result ≡ slot_body (Some self) body_word }
-    {
-        match body_word {
-            BodyWord::First => self.first,
-            BodyWord::Second => self.second,
-        }
-    }
-
     /// Returns the pins and body words after a change. A count of pins stays between 0 and [`MAX_PINS`].
     pub fn after(self, change: CountsChange) -> PinCounts
         ensures { result ≡ slot_after change self }
     {
         let mut slot = self;
         match change {
-            CountsChange::Pinned(Dir::Read) => slot.reads = more(slot.reads),
-            CountsChange::Pinned(Dir::Write) => slot.writes = more(slot.writes),
+            CountsChange::Pinned(Dir::Read) => slot.reads = (slot.reads + 1).min(MAX_PINS),
+            CountsChange::Pinned(Dir::Write) => slot.writes = (slot.writes + 1).min(MAX_PINS),
             CountsChange::Unpinned(Dir::Read) => slot.reads = slot.reads.saturating_sub(1),
             CountsChange::Unpinned(Dir::Write) => slot.writes = slot.writes.saturating_sub(1),
             CountsChange::Stored(BodyWord::Second, word) => slot.second = word,
@@ -95,13 +65,4 @@ impl PinCounts {
         }
         slot
     }
-}
-
-// Returns one pin more, but at most [`MAX_PINS`].
-fn more(pins: u16) -> u16
-    requires { pins ≤ MAX_PINS }
-    ensures value { result ≡ min (pins + 1) MAX_PINS }
-    ensures bound { result ≤ MAX_PINS }
-{
-    if pins < MAX_PINS { pins + 1 } else { pins }
 }

@@ -30,14 +30,17 @@ fn control_word(own: &[OwnerEntry], slots: &[PinCounts], gref: GrantRef) -> u64
 {
     let row = own_at(own, 0, gref);
     let slot = slot_at(slots, gref);
-    Control::of_entry(row.entry(), row.generation(), slot.reads(), slot.writes()).pack()
+    Control::of_entry(row.entry(), row.generation(), slot.reads, slot.writes).pack()
 }
 
 fn body_in_slots(slots: &[PinCounts], gref: GrantRef, body_word: BodyWord) -> u64
     ensures { result ≡ body_in slots.now gref.0 body_word }
 {
     let slot = slot_at(slots, gref);
-    slot.body(body_word)
+    match body_word {
+        BodyWord::First => slot.first,
+        BodyWord::Second => slot.second,
+    }
 }
 
 fn look_header(config: &Roster, domains: &[DomainState], dom: DomId) -> u64

@@ -218,8 +218,8 @@ impl DomainState {
             (Some(own), Some(slot)) => Some(EntryView {
                 entry: own.entry(),
                 generation: own.generation(),
-                reads: slot.reads(),
-                writes: slot.writes(),
+                reads: slot.reads,
+                writes: slot.writes,
             }),
             _ => None,
         }

@@ -1,6 +1,6 @@
 //! The lines of the body, after their domain.
 ghost use Rattle.std.specs.Prelude.{◌≡◌, map};
-ghost use Rattle.gt_script_lines.specs.Body.{tick_of, flag_of, flag_line_of, body_line_of, named_call_of};
+ghost use Rattle.gt_script_lines.specs.Body.{tick_of, flag_of, flag_line_of, body_line_of};
 
 use crate::call_names::split_name;
 use crate::calls::{ScriptCall, only_reference, read_call};
@@ -56,22 +56,15 @@ fn read_flag_line<'a>(word: &[u8], args: &[&'a [u8]]) -> Option<BodyLine<'a>>
     }
 }
 
-// Reads a call that may have a name.
-fn read_named_call<'a>(args: &[&'a [u8]]) -> Option<ScriptCall<'a>>
-    ensures { result ≡ named_call_of (map (λ word. word.now) args.now) }
-{
-    let (words, _) = split_name(args);
-    read_call(words)
-}
-
-/// Reads a line of the body by its first word and the words after its domain; None if they are not one.
+/// Reads a line of the body by its first word and the words after its domain; None if they are not one. A call may have
+/// a name, which is not part of it.
 #[tactic(auto, unfolding(crate::specs::Body::body_line_of))]
 pub fn read_body_line<'a>(word: &[u8], args: &[&'a [u8]]) -> Option<BodyLine<'a>>
     ensures { result ≡ body_line_of word.now (map (λ word. word.now) args.now) }
 {
     match word {
-        b"do" => Some(BodyLine::Do(read_named_call(args)?)),
-        b"begin" => Some(BodyLine::Begin(read_named_call(args)?)),
+        b"do" => Some(BodyLine::Do(read_call(split_name(args).0)?)),
+        b"begin" => Some(BodyLine::Begin(read_call(split_name(args).0)?)),
         b"tick" => Some(BodyLine::Tick(read_tick(args)?)),
         b"show" => Some(BodyLine::Show(only_reference(args)?)),
         _ => read_flag_line(word, args),

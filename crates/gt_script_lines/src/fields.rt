@@ -162,26 +162,17 @@ fn is_name(word: &[u8]) -> bool
     }
 }
 
-#[tactic(auto, unfolding(crate::specs::Fields::label_word))]
-fn is_label(word: &[u8]) -> bool
-    ensures { result ≡ label_word word.now }
-{
-    match word {
-        [first, rest @ ..] => {
-            first.is_ascii_alphabetic() && rest.len() <= MAX_LABEL_TAIL && are_label_bytes(rest)
-        }
-        [] => false,
-    }
-}
-
 /// Reads a label: a letter, then at most 31 letters, digits or `_`.
+#[tactic(auto, unfolding(crate::specs::Fields::label_word))]
 pub fn label<'a>(word: &'a [u8]) -> Option<Text<'a>>
     ensures { result ≡ text_where label_word word.entry.now }
 {
-    if is_label(word) {
-        Some(Text::new(word))
-    } else {
-        None
+    match word {
+        [first, rest @ ..]
+            if first.is_ascii_alphabetic()
+                && rest.len() <= MAX_LABEL_TAIL
+                && are_label_bytes(rest) => Some(Text::new(word)),
+        _ => None,
     }
 }
 

@@ -1,6 +1,6 @@
 //! The meaning of a line.
 ghost use Rattle.std.specs.Prelude.{◌≡◌, map};
-ghost use Rattle.gt_script_lines.specs.Lines.{triple_of, wear_of, domain_line_of, body_of, line_of};
+ghost use Rattle.gt_script_lines.specs.Lines.{triple_of, wear_of, domain_line_of, line_of};
 
 use crate::body::{BodyLine, read_body_line};
 use crate::fields::{generation, is_word, label_type, name};
@@ -77,20 +77,8 @@ fn read_domain<'a>(args: &[&'a [u8]]) -> Option<DomainLine<'a>>
     }
 }
 
-#[tactic(auto, unfolding(crate::specs::Lines::body_of))]
-fn read_body<'a>(word: &[u8], args: &[&'a [u8]]) -> Option<ScriptLine<'a>>
-    ensures { result ≡ body_of word.now (map (λ word. word.now) args.now) }
-{
-    match args {
-        [id, rest @ ..] => Some(ScriptLine::Body {
-            id: decimal(id)?,
-            asks: read_body_line(word, rest)?,
-        }),
-        _ => None,
-    }
-}
-
 /// Reads a line of a script; None if the words are not one.
+#[tactic(auto, unfolding(crate::specs::Lines::body_of))]
 pub fn read_line<'a>(words: &[&'a [u8]]) -> Option<ScriptLine<'a>>
     ensures { result ≡ line_of (map (λ word. word.now) words.now) }
 {
@@ -102,6 +90,10 @@ pub fn read_line<'a>(words: &[&'a [u8]]) -> Option<ScriptLine<'a>>
     } else if is_word(word, "domain") {
         Some(ScriptLine::Domain(read_domain(args)?))
     } else {
-        read_body(word, args)
+        let (id, rest) = args.split_first()?;
+        Some(ScriptLine::Body {
+            id: decimal(id)?,
+            asks: read_body_line(word, rest)?,
+        })
     }
 }

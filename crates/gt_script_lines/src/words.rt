@@ -1,8 +1,7 @@
 //! Lines and words.
 ghost use Rattle.std.specs.Prelude.{◌≡◌, IfOk, map};
 ghost use Rattle.std.specs.Str.Lines.{lines as lines_in};
-ghost use Rattle.gt_script_lines.specs.Words.{words as words_in, uncommented as without_comment, is_space as blank};
-ghost use Rattle.gt_script_lines.specs.Words.{is_nonempty as nonempty};
+ghost use Rattle.gt_script_lines.specs.Words.{words as words_in, uncommented as without_comment};
 
 use std::alloc::{AllocError, Global};
 
@@ -22,25 +21,13 @@ fn uncommented<'a>(line: &'a str) -> &'a str
     }
 }
 
-fn is_blank(byte: u8) -> bool
-    ensures { result ≡ blank byte }
-{
-    byte == b' ' || byte == b'\t'
-}
-
-fn is_nonempty(word: &[u8]) -> bool
-    ensures { result ≡ nonempty word.now }
-{
-    !word.is_empty()
-}
-
 /// Splits a line into its words, at spaces and tabs, up to its comment.
 pub fn line_words<'a>(alloc: Global, line: &'a str) -> Result<Vec<&'a [u8]>, AllocError>
     ensures { IfOk result (λ v. map (λ word. word.now) v.items ≡ words_in line.entry.now) }
 {
     uncommented(line)
         .as_bytes()
-        .split(|b| is_blank(*b))
-        .filter(|word| is_nonempty(*word))
+        .split(|byte| *byte == b' ' || *byte == b'\t')
+        .filter(|word| !word.is_empty())
         .collect(alloc)
 }

@@ -3,35 +3,25 @@ ghost use Rattle.std.specs.Prelude.{◌≡◌, List, OnOk, IfOk};
 ghost use Rattle.std.specs.Option.{option_map};
 ghost use Rattle.gt_model.specs.Asking.{asked};
 ghost use Rattle.gt_calls.specs.Probing.{IsProbe};
-ghost use Rattle.gt_script_runs.specs.Runs.{Named, hex_of_call, call_bytes as bytes_in_call, request_of, handle_given, with_name};
+ghost use Rattle.gt_script_runs.specs.Runs.{Named, call_bytes as bytes_in_call, request_of, handle_given, with_name};
 ghost use Rattle.gt_script_runs.specs.Runs.{label_given};
 ghost use Rattle.gt_script_runs.specs.Naming.{AreNamed};
 
 use crate::labels::Labels;
 use gt_core::{Answer, Request};
-use gt_script_lines::{ScriptCall, Text, hex_bytes};
+use gt_script_lines::{ScriptCall, hex_bytes};
 use gt_types::DomId;
 use std::alloc::{AllocError, Global};
-
-// Returns the hexadecimal text of a call, if it has one.
-fn hex_of_call<'b, 'a>(call: &'b ScriptCall<'a>) -> Option<&'b Text<'a>>
-    ensures { option_map (λ text. text.now) result ≡ hex_of_call call.entry.now }
-{
-    match call {
-        ScriptCall::GrantBytes { hex, .. }
-        | ScriptCall::Store { hex, .. }
-        | ScriptCall::Poke { hex, .. } => Some(hex),
-        _ => None,
-    }
-}
 
 /// Decodes the bytes of a call: those of an entry, or those that it writes.
 pub fn call_bytes<'a>(alloc: Global, call: &ScriptCall<'a>) -> Result<Vec<u8>, AllocError>
     ensures { IfOk result (λ bytes. bytes.items ≡ bytes_in_call call.now) }
 {
-    match hex_of_call(call) {
-        Some(hex) => hex_bytes(alloc, hex),
-        None => Ok(Vec::new(alloc)),
+    match call {
+        ScriptCall::GrantBytes { hex, .. }
+        | ScriptCall::Store { hex, .. }
+        | ScriptCall::Poke { hex, .. } => hex_bytes(alloc, hex),
+        _ => Ok(Vec::new(alloc)),
     }
 }
 
