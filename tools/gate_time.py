@@ -1,11 +1,12 @@
 #!/usr/bin/env python3
-"""Prints how long the gate and a first build take by the rows of docs/GATE.md, as `rt ci` schedules them.
+"""Prints how long the gate and a first build take by the rows of docs/GATE.md, as `rt ci` schedules them, and what each
+part of the repository costs by them.
 
 `rt ci` starts whatever has the longest chain of others after it, and measures a chain in lines of .rt files. Edits
 fill what the proofs leave free. No row has what comes after the proofs: clang, the runs of the programs, the scripts.
 
-usage: tools/gate_time.py            prints the table of estimates, and the longest chain of a first build
-       tools/gate_time.py --check    fails if docs/GATE.md has other estimates, or rows that don't add up
+usage: tools/gate_time.py            prints the tables of estimates and of parts, and the longest chain of a first build
+       tools/gate_time.py --check    fails if docs/GATE.md has other estimates or parts, or rows that don't add up
 
 An estimate of the page may be off by a twentieth, so that a line more in a crate doesn't make it stale.
 """
@@ -18,6 +19,26 @@ import re
 import sys
 
 PAGE, CRATES = "docs/GATE.md", "crates.txt"
+
+# What a user would miss without these crates. Each crate is in one part: the first whose pattern it matches.
+PARTS = (
+    ("`explore --races`", r"gt_explore_(races|racing)"),
+    ("claims about moments (`--never-state`)", r"gt_(state_claims|explore_states|explore_moments|moment_scripts)"),
+    ("claims with terms of order", r"gt_(precedence|explore_ordered|explore_precedence)"),
+    ("claims by names, several at once, and without a list of texts", r"gt_(call_names|explore_claims|explore_kinds)"),
+    ("`maybe` and `leave`", r"gt_explore_(choices|by_choice)"),
+    ("`--summary` and `--diff`", r"gt_explore_summary"),
+    ("`--trace`, and orders with few changes of domain", r"gt_explore_(trace|tracing|changes)"),
+    ("the rest of `explore`: texts, verdicts, witnesses", r"gt_explore\w*|gt_answer_forms|gt_commuting"),
+    ("flows of bytes (`flow`, `neverflow`), noninterference, separation", r"gt_\w*flow\w*|gt_separation|gt_policy_questions"),
+    ("policies: parser, table, findings, `neverallow`", r"gt_(policy\w*|allow|findings|neverallow|check_command)"),
+    ("the library for C", r"gt_(c|start|attached)"),
+    ("the monitor in threads", r"gt_(word_history|shared_table|words|live|linearization)"),
+    ("scripts, `play`, `run`", r"gt_(script\w*|host|run|entries)"),
+    ("the core, and what all rests on", r"gt_(types|model|entry|roster|frames|text|json|handles|audit|calls|core)"),
+    ("the command line and its reasons", r"gt\w+"),
+    ("tests, programs with stored output, `share`, `bench`", r"\w+"),
+)
 COLUMNS = ("proof", "tests", "count", "edits", "all")
 Task = collections.namedtuple("Task", "waits lines seconds fills")
 
@@ -142,6 +163,17 @@ def estimates(below, rows):
     yield estimate("`./gthost build`", tasks_of(program_of(below), rows, False))
 
 
+def parts(below, rows):
+    """The lines of the table of parts."""
+    yield "| part | crates | seconds |"
+    yield "|---|---|---|"
+    left = list(below)
+    for name, pattern in PARTS:
+        found = [it for it in left if re.fullmatch(pattern, it)]
+        left = [it for it in left if it not in found]
+        yield f"| {name} | {len(found)} | {sum(rows[it]['all'] for it in found)} |"
+
+
 def longest_chain(below, rows):
     """The crates of the longest chain of a first build, with their seconds."""
     tasks = tasks_of(program_of(below), rows, False)
@@ -189,11 +221,12 @@ def main(words):
     below, rows = below_of(), rows_of(page)
     wrong = list(wrong_rows(below, rows))
     if not wrong and not words:
-        print("\n".join(estimates(below, rows)))
+        print("\n".join([*estimates(below, rows), "", *parts(below, rows)]))
         print("\nthe longest chain of a first build:", ", ".join(longest_chain(below, rows)))
     elif not wrong:
         lines = page.splitlines()
-        wrong = [f"no line '{it}'" for it in estimates(below, rows) if not any(agrees(it, line) for line in lines)]
+        made = [*estimates(below, rows), *parts(below, rows)]
+        wrong = [f"no line '{it}'" for it in made if not any(agrees(it, line) for line in lines)]
     for it in wrong:
         print(f"{PAGE}: {it}", file=sys.stderr)
     return 1 if wrong else 0

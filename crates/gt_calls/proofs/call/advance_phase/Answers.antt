@@ -30,16 +30,15 @@ returns-in_default g c =
 
 -- a leg that is refused is followed by the release of the pins so far
 of-refused : (k : CallerKnowledge) (caller : DomId) (pin_purpose : PinPurpose) (l : Leg) (at : LegPhase) (seen : Observation)
-    (denial : Denial) (pins : CallPins) (phase after : Phase)
+    (denial : Denial) (pins : CallPins) (phase : Phase)
     → phase ≡ Walking pin_purpose l at → leg_after l at seen ≡ leg_outcomes.Refused denial → pins ≡ pins_so_far pin_purpose
-    → after ≡ Ending pins (Refused denial) → after ≡ phase_after k caller phase seen
-of-refused k caller pin_purpose l at seen denial pins phase after w r p e =
-    e ∙ ap (λ (x : CallPins). Ending x (Refused denial)) p ∙ ap (after_leg k caller pin_purpose l) (sym r)
+    → Ending pins (Refused denial) ≡ phase_after k caller phase seen
+of-refused k caller pin_purpose l at seen denial pins phase w r p =
+    ap (λ (x : CallPins). Ending x (Refused denial)) p ∙ ap (after_leg k caller pin_purpose l) (sym r)
     ∙ ap (λ (x : Phase). phase_after k caller x seen) (sym w)
 
 pub returns-in-Refused : goal.returns-in-Refused
 returns-in-Refused g c =
     let w = c.in-Walking in
     of-refused (knows g.P.Allows.may c.args.known.now) c.args.caller w.pin_purpose w.leg w.at c.args.seen c.in-Refused.denial
-    c.pins_so_far.result c.args.phase.now c.ending.result w.is (sym c.leg_next.ensures ∙ c.in-Refused.is)
-    c.pins_so_far.ensures c.ending.ensures
+    c.pins_so_far.result c.args.phase.now w.is (sym c.leg_next.ensures ∙ c.in-Refused.is) c.pins_so_far.ensures
