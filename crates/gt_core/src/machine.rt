@@ -119,14 +119,6 @@ impl<P: Allows> Machine<P> {
         }
     }
 
-    fn open_at(&self, at: usize, dom: DomId, request: Request<'_>) -> Judged<OpenCall>
-        requires { at < length self.now.domains.items }
-        ensures { (d : State) → slice_get self.now.domains.items at ≡ Some d →
-            OpensAs (known_by P.may self.now d) dom request.entry result }
-    {
-        open_call(&self.known_at(at), dom, request)
-    }
-
     /// Begins a call of the domain.
     ///
     /// # Errors
@@ -148,7 +140,7 @@ impl<P: Allows> Machine<P> {
         if self.domains[at].underway().is_some() {
             return Ok(Begun::Busy);
         }
-        match self.open_at(at, dom, request) {
+        match open_call(&self.known_at(at), dom, request) {
             Judged::Open(open) => {
                 asked_fits(open.call.request);
                 let alloc = self.alloc;

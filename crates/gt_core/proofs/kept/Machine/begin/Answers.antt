@@ -1,6 +1,6 @@
 use Rattle.gt_core.proofs.Words.{sym, ◌∙◌, ap, Some, ◌≡◌, ℕ, List, refl, subst, None, Option, position, is_some, OpenCall}
 use Rattle.gt_core.proofs.Words.{with_open_call, bytes_given_by, State, kept_by, ◌<◌, ◌+◌, knowledge_of, DomainsStand}
-use Rattle.gt_core.proofs.Words.{OpensAs}
+use Rattle.gt_core.proofs.Words.{OpensAs, CallerKnowledge, DomId, Request}
 use Rattle.gt_calls.specs.declared.asking.Judged.{Judged}
 use Rattle.gt_core.proofs.Words.{same_Some, set, ◌∷◌, ◌^◌}
 use Rattle.gt_core.{proofs.Beginning.serial-left, proofs.Beginning.begin-wants, proofs.Beginning.begin-nowhere}
@@ -8,6 +8,10 @@ use Rattle.gt_core.{proofs.Beginning.begin-busy, proofs.Beginning.begin-answers,
 use Rattle.gt_core.{proofs.Beginning.place-at, proofs.Beginning.began, proofs.Placed.either-way, proofs.Placed.ids-set}
 use Rattle.gt_core.{proofs.Rows.has_id, proofs.Rows.on-err, specs.Acting.setting_by}
 use Rattle.gt_core.proofs.kept.Machine.begin.Goals as goal
+
+-- a call that is opened by what its domain knows
+opened : (k : CallerKnowledge) {j : CallerKnowledge} (dom : DomId) (request : Request) (o : Judged OpenCall) → j ≡ k → OpensAs j dom request o → OpensAs k dom request o
+opened k dom request o same opens = subst (λ (z : CallerKnowledge). OpensAs z dom request o) same opens
 
 pub returns-in_default-clause-stands : goal.returns-in_default-clause-stands
 returns-in_default-clause-stands g c =
@@ -26,7 +30,7 @@ returns-in-Answered-clause-stands g c =
     let s = setting_by g.P.Allows.may c.args.self.now in let xs = c.args.self.now.domains.items in
     let p : position (has_id c.args.dom.0) xs ≡ Some c.in-Some.at = ap (λ (l : List State). position (has_id c.args.dom.0) l) (sym c.deref.ensures.value) ∙ sym c.find.ensures ∙ c.in-Some.is in
     let x = c.index.result.now in let k = knowledge_of s.domains s.first_generation s.may x.own x.header x.mappings in
-    let opens = subst (λ (o : Judged OpenCall). OpensAs k c.args.dom c.args.request o) c.in-Answered.is (c.open_at.ensures x (place-at xs c.args.dom.0 c.in-Some.at x p c.index.ensures)) in
+    let opens = subst (λ (o : Judged OpenCall). OpensAs k c.args.dom c.args.request o) c.in-Answered.is (opened k c.args.dom c.args.request c.open_call.result (c.known_at.ensures x (place-at xs c.args.dom.0 c.in-Some.at x p c.index.ensures)) c.open_call.ensures) in
     λ h st. let r = begin-answers s h xs c.args.dom c.in-Some.at x c.args.request c.in-Answered.verdict c.answer_of.result c.answer_of.ensures p c.index.ensures (ap (λ (o : Option OpenCall). is_some o) (sym c.underway.ensures) ∙ sym c.is_some.ensures ∙ c.if-is_some.false) opens st in
     ((r.0, (refl, refl), r.1), r.2)
 
@@ -35,7 +39,7 @@ returns-in_ok-start_call-in-Open-clause-stands g c =
     let s = setting_by g.P.Allows.may c.args.self.now in let xs = c.args.self.now.domains.items in
     let p : position (has_id c.args.dom.0) xs ≡ Some c.in-Some.at = ap (λ (l : List State). position (has_id c.args.dom.0) l) (sym c.deref.ensures.value) ∙ sym c.find.ensures ∙ c.in-Some.is in
     let x = c.index.result.now in let k = knowledge_of s.domains s.first_generation s.may x.own x.header x.mappings in
-    let opens = subst (λ (o : Judged OpenCall). OpensAs k c.args.dom c.args.request o) c.in-Open.is (c.open_at.ensures x (place-at xs c.args.dom.0 c.in-Some.at x p c.index.ensures)) in
+    let opens = subst (λ (o : Judged OpenCall). OpensAs k c.args.dom c.args.request o) c.in-Open.is (opened k c.args.dom c.args.request c.open_call.result (c.known_at.ensures x (place-at xs c.args.dom.0 c.in-Some.at x p c.index.ensures)) c.open_call.ensures) in
     let y = c.index_mut.result.now in
     let same : x ≡ y = same_Some x y (sym (place-at xs c.args.dom.0 c.in-Some.at x p c.index.ensures) ∙ place-at xs c.args.dom.0 c.in-Some.at y p c.index_mut.ensures.value) in
     let r = c.in-Open.open.call.request in
@@ -52,7 +56,7 @@ returns-in_err-start_call-in-Open-clause-memory g c =
     let s = setting_by g.P.Allows.may c.args.self.now in let xs = c.args.self.now.domains.items in
     let p : position (has_id c.args.dom.0) xs ≡ Some c.in-Some.at = ap (λ (l : List State). position (has_id c.args.dom.0) l) (sym c.deref.ensures.value) ∙ sym c.find.ensures ∙ c.in-Some.is in
     let x = c.index.result.now in let k = knowledge_of s.domains s.first_generation s.may x.own x.header x.mappings in
-    let opens = subst (λ (o : Judged OpenCall). OpensAs k c.args.dom c.args.request o) c.in-Open.is (c.open_at.ensures x (place-at xs c.args.dom.0 c.in-Some.at x p c.index.ensures)) in
+    let opens = subst (λ (o : Judged OpenCall). OpensAs k c.args.dom c.args.request o) c.in-Open.is (opened k c.args.dom c.args.request c.open_call.result (c.known_at.ensures x (place-at xs c.args.dom.0 c.in-Some.at x p c.index.ensures)) c.open_call.ensures) in
     λ h st. on-err c.from_residual.result _ (begin-wants s h xs c.args.dom c.in-Some.at x c.args.request c.in-Open.open c.in_err-start_call-in-Open.ensures.memory p c.index.ensures
     (ap (λ (o : Option OpenCall). is_some o) (sym c.underway.ensures) ∙ sym c.is_some.ensures ∙ c.if-is_some.false) opens st)
 
@@ -60,7 +64,7 @@ pub start_call-requires : goal.start_call-requires
 start_call-requires g c = let s = setting_by g.P.Allows.may c.args.self.now in let xs = c.args.self.now.domains.items in
     let p : position (has_id c.args.dom.0) xs ≡ Some c.in-Some.at = ap (λ (l : List State). position (has_id c.args.dom.0) l) (sym c.deref.ensures.value) ∙ sym c.find.ensures ∙ c.in-Some.is in
     let x = c.index.result.now in let k = knowledge_of s.domains s.first_generation s.may x.own x.header x.mappings in
-    let opens = subst (λ (o : Judged OpenCall). OpensAs k c.args.dom c.args.request o) c.in-Open.is (c.open_at.ensures x (place-at xs c.args.dom.0 c.in-Some.at x p c.index.ensures)) in
+    let opens = subst (λ (o : Judged OpenCall). OpensAs k c.args.dom c.args.request o) c.in-Open.is (opened k c.args.dom c.args.request c.open_call.result (c.known_at.ensures x (place-at xs c.args.dom.0 c.in-Some.at x p c.index.ensures)) c.open_call.ensures) in
     let y = c.index_mut.result.now in
     let same : x ≡ y = same_Some x y (sym (place-at xs c.args.dom.0 c.in-Some.at x p c.index.ensures) ∙ place-at xs c.args.dom.0 c.in-Some.at y p c.index_mut.ensures.value) in
     λ m. subst (λ (z : State). z.mappings.given + 1 < 2 ^ 64) same (serial-left k c.args.dom c.args.request c.in-Open.open.call.request opens.asks opens.none m)
