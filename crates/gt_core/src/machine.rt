@@ -140,7 +140,8 @@ impl<P: Allows> Machine<P> {
         if self.domains[at].underway().is_some() {
             return Ok(Begun::Busy);
         }
-        match open_call(&self.known_at(at), dom, request) {
+        let judged = open_call(&self.known_at(at), dom, request);
+        match judged {
             Judged::Open(open) => {
                 asked_fits(open.call.request);
                 let alloc = self.alloc;

@@ -30,7 +30,7 @@ returns-in-Answered-clause-stands g c =
     let s = setting_by g.P.Allows.may c.args.self.now in let xs = c.args.self.now.domains.items in
     let p : position (has_id c.args.dom.0) xs ≡ Some c.in-Some.at = ap (λ (l : List State). position (has_id c.args.dom.0) l) (sym c.deref.ensures.value) ∙ sym c.find.ensures ∙ c.in-Some.is in
     let x = c.index.result.now in let k = knowledge_of s.domains s.first_generation s.may x.own x.header x.mappings in
-    let opens = subst (λ (o : Judged OpenCall). OpensAs k c.args.dom c.args.request o) c.in-Answered.is (opened k c.args.dom c.args.request c.open_call.result (c.known_at.ensures x (place-at xs c.args.dom.0 c.in-Some.at x p c.index.ensures)) c.open_call.ensures) in
+    let opens = subst (λ (o : Judged OpenCall). OpensAs k c.args.dom c.args.request o) c.in-Answered.is (opened k c.args.dom c.args.request c.open_call-judged.result (c.known_at.ensures x (place-at xs c.args.dom.0 c.in-Some.at x p c.index.ensures)) c.open_call-judged.ensures) in
     λ h st. let r = begin-answers s h xs c.args.dom c.in-Some.at x c.args.request c.in-Answered.verdict c.answer_of.result c.answer_of.ensures p c.index.ensures (ap (λ (o : Option OpenCall). is_some o) (sym c.underway.ensures) ∙ sym c.is_some.ensures ∙ c.if-is_some.false) opens st in
     ((r.0, (refl, refl), r.1), r.2)
 
@@ -39,7 +39,7 @@ returns-in_ok-start_call-in-Open-clause-stands g c =
     let s = setting_by g.P.Allows.may c.args.self.now in let xs = c.args.self.now.domains.items in
     let p : position (has_id c.args.dom.0) xs ≡ Some c.in-Some.at = ap (λ (l : List State). position (has_id c.args.dom.0) l) (sym c.deref.ensures.value) ∙ sym c.find.ensures ∙ c.in-Some.is in
     let x = c.index.result.now in let k = knowledge_of s.domains s.first_generation s.may x.own x.header x.mappings in
-    let opens = subst (λ (o : Judged OpenCall). OpensAs k c.args.dom c.args.request o) c.in-Open.is (opened k c.args.dom c.args.request c.open_call.result (c.known_at.ensures x (place-at xs c.args.dom.0 c.in-Some.at x p c.index.ensures)) c.open_call.ensures) in
+    let opens = subst (λ (o : Judged OpenCall). OpensAs k c.args.dom c.args.request o) c.in-Open.is (opened k c.args.dom c.args.request c.open_call-judged.result (c.known_at.ensures x (place-at xs c.args.dom.0 c.in-Some.at x p c.index.ensures)) c.open_call-judged.ensures) in
     let y = c.index_mut.result.now in
     let same : x ≡ y = same_Some x y (sym (place-at xs c.args.dom.0 c.in-Some.at x p c.index.ensures) ∙ place-at xs c.args.dom.0 c.in-Some.at y p c.index_mut.ensures.value) in
     let r = c.in-Open.open.call.request in
@@ -56,7 +56,7 @@ returns-in_err-start_call-in-Open-clause-memory g c =
     let s = setting_by g.P.Allows.may c.args.self.now in let xs = c.args.self.now.domains.items in
     let p : position (has_id c.args.dom.0) xs ≡ Some c.in-Some.at = ap (λ (l : List State). position (has_id c.args.dom.0) l) (sym c.deref.ensures.value) ∙ sym c.find.ensures ∙ c.in-Some.is in
     let x = c.index.result.now in let k = knowledge_of s.domains s.first_generation s.may x.own x.header x.mappings in
-    let opens = subst (λ (o : Judged OpenCall). OpensAs k c.args.dom c.args.request o) c.in-Open.is (opened k c.args.dom c.args.request c.open_call.result (c.known_at.ensures x (place-at xs c.args.dom.0 c.in-Some.at x p c.index.ensures)) c.open_call.ensures) in
+    let opens = subst (λ (o : Judged OpenCall). OpensAs k c.args.dom c.args.request o) c.in-Open.is (opened k c.args.dom c.args.request c.open_call-judged.result (c.known_at.ensures x (place-at xs c.args.dom.0 c.in-Some.at x p c.index.ensures)) c.open_call-judged.ensures) in
     λ h st. on-err c.from_residual.result _ (begin-wants s h xs c.args.dom c.in-Some.at x c.args.request c.in-Open.open c.in_err-start_call-in-Open.ensures.memory p c.index.ensures
     (ap (λ (o : Option OpenCall). is_some o) (sym c.underway.ensures) ∙ sym c.is_some.ensures ∙ c.if-is_some.false) opens st)
 
@@ -64,7 +64,7 @@ pub start_call-requires : goal.start_call-requires
 start_call-requires g c = let s = setting_by g.P.Allows.may c.args.self.now in let xs = c.args.self.now.domains.items in
     let p : position (has_id c.args.dom.0) xs ≡ Some c.in-Some.at = ap (λ (l : List State). position (has_id c.args.dom.0) l) (sym c.deref.ensures.value) ∙ sym c.find.ensures ∙ c.in-Some.is in
     let x = c.index.result.now in let k = knowledge_of s.domains s.first_generation s.may x.own x.header x.mappings in
-    let opens = subst (λ (o : Judged OpenCall). OpensAs k c.args.dom c.args.request o) c.in-Open.is (opened k c.args.dom c.args.request c.open_call.result (c.known_at.ensures x (place-at xs c.args.dom.0 c.in-Some.at x p c.index.ensures)) c.open_call.ensures) in
+    let opens = subst (λ (o : Judged OpenCall). OpensAs k c.args.dom c.args.request o) c.in-Open.is (opened k c.args.dom c.args.request c.open_call-judged.result (c.known_at.ensures x (place-at xs c.args.dom.0 c.in-Some.at x p c.index.ensures)) c.open_call-judged.ensures) in
     let y = c.index_mut.result.now in
     let same : x ≡ y = same_Some x y (sym (place-at xs c.args.dom.0 c.in-Some.at x p c.index.ensures) ∙ place-at xs c.args.dom.0 c.in-Some.at y p c.index_mut.ensures.value) in
     λ m. subst (λ (z : State). z.mappings.given + 1 < 2 ^ 64) same (serial-left k c.args.dom c.args.request c.in-Open.open.call.request opens.asks opens.none m)
