@@ -47,13 +47,19 @@ impl<'a> Model for Script<'a> {
     } };
 }
 
+fn is_domain(domains: &[DomainConfig], id: DomId) -> bool
+    ensures { result ≡ is_taken domains.now id }
+{
+    domains.iter().any(|d| d.id == id)
+}
+
 // Finds the domain with this number, if it is configured.
 #[tactic(auto, unfolding(crate::specs::Script::configured))]
 fn configured(domains: &[DomainConfig], number: Number) -> Option<DomId>
     ensures { result ≡ configured domains.now number }
 {
     let dom = DomId(number.below(1 << 16)? as u16);
-    if domains.iter().any(|d| d.id == dom) {
+    if is_domain(domains, dom) {
         Some(dom)
     } else {
         None
