@@ -6,7 +6,7 @@ ghost use Rattle.gt_types.specs.declared.DomId.{DomId};
 ghost use Rattle.gt_model.specs.History.{History};
 ghost use Rattle.gt_core.specs.Standing.{CoreStands, setting_in};
 ghost use Rattle.gt_script_runs.specs.Printing.{answer_line};
-ghost use Rattle.gt_script_runs.specs.Runs.{call_bytes as bytes_in_call, DoLine, BeginLine, TickLine, RunsLine};
+ghost use Rattle.gt_script_runs.specs.Runs.{call_bytes as bytes_in_call, label_said, DoLine, BeginLine, TickLine, RunsLine};
 ghost use Rattle.gt_script_runs.specs.Naming.{NamesMapping};
 ghost use Rattle.gt_host.specs.Ticking.{IsReadyToCall, HasCalled, TicksTo, Leads};
 ghost use Rattle.gt_host.specs.declared.fault.StepsFault.TheVariants as steps_faults;
@@ -24,6 +24,16 @@ use gt_script_runs::{
 };
 use gt_types::{Allows, DomId, Memory};
 use std::alloc::{AllocError, Global};
+
+// Returns the label to which the call of a step gives its handle.
+fn label_in<'a>(action: &ScriptAction<'a>) -> Option<&'a [u8]>
+    ensures { option_map (λ l. l.now) result ≡ label_said action.now }
+{
+    match action {
+        ScriptAction::Do(call) | ScriptAction::Begin(call) => label_given(call),
+        ScriptAction::Tick(_) | ScriptAction::Show(_) => None,
+    }
+}
 
 // A domain's call that has its answer, and the step that began it.
 #[derive(Drop)]
@@ -45,11 +55,7 @@ fn answer_call<'b, 'a>(
     ensures line { OnOk result (out.new.items
         ≡ out.old.items ++ answer_line types.now at.entry.step.now.line at.entry.dom at.entry.answer.now) }
 {
-    let label = match &at.step.action {
-        ScriptAction::Do(call) | ScriptAction::Begin(call) => label_given(call),
-        ScriptAction::Tick(_) | ScriptAction::Show(_) => None,
-    };
-    name_mapping(labels, at.dom, label, at.answer)?;
+    name_mapping(labels, at.dom, label_in(&at.step.action), at.answer)?;
     push_answer_line(alloc, out, types, at.step.line, at.dom, at.answer)
 }
 
