@@ -35,8 +35,9 @@ pub enum CountsChange {
 }
 
 impl PinCounts {
-    ghost use Rattle.std.specs.Prelude.{◌≡◌};
+    ghost use Rattle.std.specs.Prelude.{◌≡◌, ◌≤◌, Some};
     ghost use Rattle.gt_core.specs.Effects.{slot_after};
+    ghost use Rattle.gt_core.specs.Sight.{slot_body};
 
     /// Returns no pins, and zero for both body words.
     pub fn new() -> PinCounts
@@ -47,6 +48,32 @@ impl PinCounts {
             writes: 0,
             first: 0,
             second: 0,
+        }
+    }
+
+    /// Returns the number of read pins, at most [`MAX_PINS`].
+    pub fn reads(self) -> u16
+        ensures value { result ≡ self.reads }
+        ensures bound { result ≤ MAX_PINS }
+    {
+        self.reads
+    }
+
+    /// Returns the number of write pins, at most [`MAX_PINS`].
+    pub fn writes(self) -> u16
+        ensures value { result ≡ self.writes }
+        ensures bound { result ≤ MAX_PINS }
+    {
+        self.writes
+    }
+
+    /// Returns one of the body words.
+    pub fn body(self, body_word: BodyWord) -> u64
+        ensures { result ≡ slot_body (Some self) body_word }
+    {
+        match body_word {
+            BodyWord::First => self.first,
+            BodyWord::Second => self.second,
         }
     }
 
