@@ -1,5 +1,6 @@
 //! The calls that read or write the bytes of one frame. Only these calls, and copies, may wait.
-ghost use Rattle.std.specs.Prelude.{◌≡◌, ◌+◌, ◌≤◌, length, IfOk, IfErr, OnErr};
+ghost use Rattle.std.specs.Prelude.{◌≡◌, ◌+◌, ◌≤◌, length, IfOk, IfErr, OnErr, true};
+ghost use Rattle.gt_model.specs.Permits.{permits};
 ghost use Rattle.gt_types.specs.declared.Dir.TheVariants as dirs;
 ghost use Rattle.gt_types.specs.declared.Use.TheVariants as uses;
 ghost use Rattle.gt_words.specs.Conditions.{IsSameSeat, IsSeatOf};
@@ -14,9 +15,10 @@ ghost use Rattle.gt_live.specs.Parts.{words_of};
 use super::{Domain, refusal_of};
 use crate::accesses::{Access, writ_by};
 use crate::monitor::Monitor;
-use gt_calls::{AccessPath, Handle, judge_load, judge_own_access, judge_store};
+use gt_calls::{AccessPath, Handle, HeldPin, judge_load, judge_own_access, judge_store};
+use gt_entry::Entry;
 use gt_frames::{Filled, Read, Written};
-use gt_types::{Allows, Denial, FRAME_SIZE, Facts, FrameName, Rule, Spot};
+use gt_types::{Allows, Denial, DomId, FRAME_SIZE, Facts, FrameName, Rule, Spot};
 use gt_words::{AccessFault, FrameWrite, Seat};
 use std::alloc::Global;
 use std::sync::Wait;
@@ -28,6 +30,26 @@ pub(super) fn not_made(refused: AccessFault) -> Denial
     match refused {
         AccessFault::Gone => Denial::new(Rule::N16, Facts::None),
         AccessFault::Memory => Denial::new(Rule::N26, Facts::None),
+    }
+}
+
+// Returns the pin of a mapping with its entry written out: a page that is granted to the caller. The compiler then makes no
+// code for other entries, and the writ of a store has no parts but those of a page.
+#[inline(always)]
+fn mapped_page(kept: HeldPin, caller: DomId) -> HeldPin
+    requires { permits kept.entry caller kept.dir uses.Map 0 0 ≡ true }
+    ensures { result ≡ kept }
+{
+    match kept.entry {
+        Entry::Page { ro, frame, .. } => HeldPin {
+            entry: Entry::Page {
+                dom: caller,
+                ro,
+                frame,
+            },
+            ..kept
+        },
+        _ => unreachable!(),
     }
 }
 
@@ -156,7 +178,8 @@ impl Domain {
         if let Some(verdict) = judge_load(&self.mappings, handle, off, usize::from(len)) {
             return Err(refusal_of(verdict));
         }
-        let held = *self.mappings.get(handle).unwrap();
+        let kept = *self.mappings.get(handle).unwrap();
+        let held = mapped_page(kept, self.seat.dom());
         let name = FrameName {
             owner: held.dom,
             number: held.entry.frame(),
@@ -193,7 +216,8 @@ impl Domain {
         if let Some(verdict) = judge_load(&self.mappings, handle, off, buffer.len()) {
             return Err(refusal_of(verdict));
         }
-        let held = *self.mappings.get(handle).unwrap();
+        let kept = *self.mappings.get(handle).unwrap();
+        let held = mapped_page(kept, self.seat.dom());
         let name = FrameName {
             owner: held.dom,
             number: held.entry.frame(),
@@ -298,7 +322,8 @@ impl Domain {
         if let Some(verdict) = judge_store(&self.mappings, handle, off, bytes.len()) {
             return Err(refusal_of(verdict));
         }
-        let held = *self.mappings.get(handle).unwrap();
+        let kept = *self.mappings.get(handle).unwrap();
+        let held = mapped_page(kept, self.seat.dom());
         let name = FrameName {
             owner: held.dom,
             number: held.entry.frame(),

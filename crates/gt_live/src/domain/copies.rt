@@ -215,9 +215,7 @@ impl Domain {
         give_back(&monitor.words, &mut self.seat, pins)
     }
 
-    // Copies to a granted page, without a record. It is a separate function: its pins are in memory for the walk to its
-    // destination, and in one function a copy to a frame of the caller would keep its pins there too.
-    #[inline(never)]
+    // Copies to a granted page, without a record.
     fn make_copy_to_grant<R: Wait, P: Allows>(
         &mut self,
         rt: &R,
@@ -291,18 +289,28 @@ impl Domain {
             to,
             len: copy.len,
         };
-        let copied = copy_through(rt, monitor, &mut self.seat, &home);
-        self.give_back(monitor, &pins);
-        copied
+        match copy_through(rt, monitor, &mut self.seat, &home) {
+            Ok(copied) => {
+                self.give_back(monitor, &pins);
+                Ok(copied)
+            }
+            Err(denial) => {
+                self.give_back(monitor, &pins);
+                Err(denial)
+            }
+        }
     }
 
-    // Copies, without a record.
-    fn make_copy<R: Wait, P: Allows>(
+    // Copies to a granted page, and records it. It is a separate function: its pins are in memory for the walk to its
+    // destination, and in one function a copy to a frame of the caller would keep its pins there too.
+    #[inline(never)]
+    fn copy_to_grant<R: Wait, P: Allows>(
         &mut self,
         rt: &R,
         monitor: &Monitor<P>,
         copy: &CopyArgs,
     ) -> Result<Copied, Denial>
+        requires granted { is_dest_granted copy.now ≡ true }
         requires mine { BelongsTo P.may monitor.now self.old }
         ensures mine { BelongsTo P.may monitor.now self.new }
         ensures seat { IsSameSeat self.old.seat self.new.seat }
@@ -310,12 +318,19 @@ impl Domain {
             (IsCopiedBy (known_on P.may monitor.now self.old) monitor.now.words.layout self.old copy.now)
             result self.new }
         ensures kept { KeepsPinned self.old self.new }
-        ensures silent { self.new.trail ≡ self.old.trail }
+        ensures recorded { AppendsRecord self.old.trail (record_of_copy self.old copy.now result) self.new.trail }
     {
-        if copy.is_dest_granted() {
-            return self.make_copy_to_grant(rt, monitor, copy);
+        let dom = self.seat.dom();
+        match self.make_copy_to_grant(rt, monitor, copy) {
+            Ok(copied) => {
+                record_done(&mut self.trail, dom, copy_hypercall(*copy));
+                Ok(copied)
+            }
+            Err(denial) => {
+                record_refusal(&mut self.trail, dom, copy_hypercall(*copy), denial);
+                Err(denial)
+            }
         }
-        self.make_copy_home(rt, monitor, copy)
     }
 
     /// Copies bytes between frames: the domain's own, or those of grants, transitive ones too. Waits for the locks of
@@ -341,8 +356,14 @@ impl Domain {
         ensures recorded { AppendsRecord (trail_of self.old)
             (record_of_copy self.old copy.now result) (trail_of self.new) }
     {
+        if copy.is_dest_granted() {
+            return match self.copy_to_grant(rt, monitor, copy) {
+                Ok(done) => Ok(done),
+                Err(denial) => Err(denial),
+            };
+        }
         let caller = self.seat.dom();
-        match self.make_copy(rt, monitor, copy) {
+        match self.make_copy_home(rt, monitor, copy) {
             Ok(copied) => {
                 record_done(&mut self.trail, caller, copy_hypercall(*copy));
                 Ok(copied)
