@@ -8,8 +8,8 @@ use std::marker::Model;
 pub struct PinCounts {
     pub(crate) reads: u16,
     pub(crate) writes: u16,
-    pub(crate) first: u64,
-    pub(crate) second: u64,
+    first: u64,
+    second: u64,
 }
 
 impl Model for PinCounts {

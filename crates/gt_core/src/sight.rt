@@ -33,16 +33,6 @@ fn control_word(own: &[OwnerEntry], slots: &[PinCounts], gref: GrantRef) -> u64
     Control::of_entry(row.entry(), row.generation(), slot.reads, slot.writes).pack()
 }
 
-fn body_in_slots(slots: &[PinCounts], gref: GrantRef, body_word: BodyWord) -> u64
-    ensures { result ≡ body_in slots.now gref.0 body_word }
-{
-    let slot = slot_at(slots, gref);
-    match body_word {
-        BodyWord::First => slot.first,
-        BodyWord::Second => slot.second,
-    }
-}
-
 fn look_header(config: &Roster, domains: &[DomainState], dom: DomId) -> u64
     requires { IsPlaced config.now.domains.items domains.now }
     ensures { result ≡ header_seen domains.now dom.0 }
@@ -82,7 +72,7 @@ fn look_body(
     match find(config, domains, dom) {
         Some(at) => {
             let domain = &domains[at];
-            body_in_slots(&domain.slots, gref, body_word)
+            slot_at(&domain.slots, gref).body(body_word)
         }
         None => 0,
     }
