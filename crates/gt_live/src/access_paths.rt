@@ -160,7 +160,8 @@ fn reach_source<P: Allows>(
     }
 }
 
-// Walks to the granted destination of a copy, after its source, and writes the access path to it, whose pins were taken.
+// Walks to the granted destination of a copy, after its source, and writes the access path to it, whose pins were
+// taken.
 #[inline(never)]
 fn reach_granted<P: Allows>(
     words: &Words,
@@ -207,8 +208,8 @@ fn reach_granted<P: Allows>(
     }
 }
 
-// Walks to the destination of a copy like the function above, which is not inlined. This one is, so that only such a copy
-// makes room for the refusal.
+// Walks to the destination of a copy like the function above, which is not inlined. This one is, so that only such a
+// copy makes room for the refusal.
 #[inline(always)]
 fn reach_dest<P: Allows>(
     words: &Words,

@@ -1,5 +1,6 @@
 //! The calls that read or write the bytes of one frame. Only these calls, and copies, may wait.
-ghost use Rattle.std.specs.Prelude.{◌≡◌, ◌+◌, ◌≤◌, length, IfOk, IfErr, OnErr, true};
+ghost use Rattle.std.specs.Prelude.{◌≡◌, ◌+◌, ◌≤◌, length, IfOk, IfErr, IsSome, OnErr, Some, true};
+ghost use Rattle.gt_handles.specs.Handles.{value_of};
 ghost use Rattle.gt_model.specs.Permits.{permits};
 ghost use Rattle.gt_types.specs.declared.Dir.TheVariants as dirs;
 ghost use Rattle.gt_types.specs.declared.Use.TheVariants as uses;
@@ -33,10 +34,10 @@ pub(super) fn not_made(refused: AccessFault) -> Denial
     }
 }
 
-// Returns the pin of a mapping with its entry written out: a page that is granted to the caller. The compiler then makes no
-// code for other entries, and the writ of a store has no parts but those of a page.
+// Returns the pin of a mapping with its entry written out: a page that is granted to the caller. The compiler then makes
+// no code for other entries, and the writ of a store has no parts but those of a page.
 #[inline(always)]
-fn mapped_page(kept: HeldPin, caller: DomId) -> HeldPin
+fn page_of(kept: HeldPin, caller: DomId) -> HeldPin
     requires { permits kept.entry caller kept.dir uses.Map 0 0 ≡ true }
     ensures { result ≡ kept }
 {
@@ -158,6 +159,18 @@ fn write_through<'a, R: Wait, P: Allows>(
 }
 
 impl Domain {
+    // Returns the pin of the mapping with this handle. Only pages that are granted to the domain are mapped.
+    #[inline(always)]
+    fn mapped_page(&self, handle: Handle) -> HeldPin
+        requires there { IsSome (value_of self.now.mappings handle) }
+        requires page { (held : HeldPin) → value_of self.now.mappings handle ≡ Some held →
+            permits held.entry self.now.seat.dom held.dir uses.Map 0 0 ≡ true }
+        ensures { value_of self.now.mappings handle ≡ Some result }
+    {
+        let kept = *self.mappings.get(handle).unwrap();
+        page_of(kept, self.seat.dom())
+    }
+
     /// Reads `len` bytes through a mapping, starting at the offset `off`. Waits for the frame's lock.
     ///
     /// # Errors
@@ -178,8 +191,7 @@ impl Domain {
         if let Some(verdict) = judge_load(&self.mappings, handle, off, usize::from(len)) {
             return Err(refusal_of(verdict));
         }
-        let kept = *self.mappings.get(handle).unwrap();
-        let held = mapped_page(kept, self.seat.dom());
+        let held = self.mapped_page(handle);
         let name = FrameName {
             owner: held.dom,
             number: held.entry.frame(),
@@ -216,8 +228,7 @@ impl Domain {
         if let Some(verdict) = judge_load(&self.mappings, handle, off, buffer.len()) {
             return Err(refusal_of(verdict));
         }
-        let kept = *self.mappings.get(handle).unwrap();
-        let held = mapped_page(kept, self.seat.dom());
+        let held = self.mapped_page(handle);
         let name = FrameName {
             owner: held.dom,
             number: held.entry.frame(),
@@ -322,8 +333,7 @@ impl Domain {
         if let Some(verdict) = judge_store(&self.mappings, handle, off, bytes.len()) {
             return Err(refusal_of(verdict));
         }
-        let kept = *self.mappings.get(handle).unwrap();
-        let held = mapped_page(kept, self.seat.dom());
+        let held = self.mapped_page(handle);
         let name = FrameName {
             owner: held.dom,
             number: held.entry.frame(),

@@ -357,10 +357,7 @@ impl Domain {
             (record_of_copy self.old copy.now result) (trail_of self.new) }
     {
         if copy.is_dest_granted() {
-            return match self.copy_to_grant(rt, monitor, copy) {
-                Ok(done) => Ok(done),
-                Err(denial) => Err(denial),
-            };
+            return self.copy_to_grant(rt, monitor, copy);
         }
         let caller = self.seat.dom();
         match self.make_copy_home(rt, monitor, copy) {

@@ -1,16 +1,12 @@
-use Rattle.std.proofs.Common.{◌≡◌, ◌∙◌, sym, ap, subst, refl, Some, length}
-use Rattle.std.specs.Prelude.{true, IfOk, ℕ, option_copied, IfErr}
+use Rattle.std.proofs.Common.{◌≡◌, ◌∙◌, sym, subst, refl, length}
+use Rattle.std.specs.Prelude.{IfOk, ℕ, IfErr}
 use Rattle.gt_frames.specs.Receipts.{Writing}
 use Rattle.gt_types.specs.declared.Dir.TheVariants as dirs
-use Rattle.gt_types.specs.declared.DomId.{DomId}
-use Rattle.gt_types.specs.declared.Use.TheVariants as uses
-use Rattle.gt_model.specs.Permits.{permits}
 use Rattle.gt_model.specs.Entries.{frame_of}
 use Rattle.gt_model.specs.declared.action.Step.TheVariants as call_steps
 use Rattle.gt_model.specs.declared.held.AccessPath.TheVariants.{Direct}
 use Rattle.gt_model.specs.declared.held.HeldPin.{HeldPin}
 use Rattle.gt_model.specs.declared.request.Request.TheVariants as requests
-use Rattle.gt_handles.specs.Handles.{value_of}
 use Rattle.gt_live.specs.Accesses.{frame_named, IsIfMissing, IsWrittenBy, WritesFrame}
 use Rattle.gt_live.specs.Domains.{knowledge}
 use Rattle.gt_live.proofs.Accessing.{mapped-way, named-access_path, none-left, one-access, refused-access, reaches-mapped}
@@ -19,30 +15,26 @@ use Rattle.gt_live.proofs.DomainKept.{reseated}
 use Rattle.gt_live.proofs.Making.{same_seat-self}
 use Rattle.gt_live.proofs.domain.Domain.store.Goals as goal
 
-pub mapped_page-held-requires : goal.mapped_page-held-requires
-mapped_page-held-requires g c =
-    let d = c.args.self.now in let kept = c.unwrap-kept.result.now in
-    let there : value_of d.mappings c.args.handle ≡ Some kept = sym c.get.ensures.value ∙ ap option_copied c.unwrap-kept.ensures in
-    subst (λ (dom : DomId). permits kept.entry dom kept.dir uses.Map 0 0 ≡ true) (sym c.dom.ensures)
-    (c.requires.mine.mapped c.args.handle kept there).permitted
+pub mapped_page-held-requires-clause-page : goal.mapped_page-held-requires-clause-page
+mapped_page-held-requires-clause-page g c = λ held there. (c.requires.mine.mapped c.args.handle held there).permitted
 
 pub write_through-requires-clause-reached : goal.write_through-requires-clause-reached
 write_through-requires-clause-reached g c =
     let m = c.args.monitor.now in let d = c.args.self.now in let may = g.P.Allows.may m.rights in let held = c.mapped_page-held.result in
-    let there : value_of d.mappings c.args.handle ≡ Some held = sym c.get.ensures.value ∙ ap option_copied c.unwrap-kept.ensures ∙ ap (λ (m : HeldPin). Some m) (sym c.mapped_page-held.ensures) in
+    let there = c.mapped_page-held.ensures in
     let writable : held.dir ≡ dirs.Write = writes-by (knowledge m.config may d) d.seat.dom c.args.handle c.args.off (length c.args.bytes.now) held (sym c.judge_store.ensures ∙ none-left c.judge_store.result c.in_default.not-Some) there in
     reaches-mapped m.words.layout m.config.domains.items may d.seat held dirs.Write c.frame.result c.args.off (length c.args.bytes.now) (c.requires.mine.mapped c.args.handle held there) (λ e. writable) c.frame.ensures
 
 pub write_through-requires-clause-may : goal.write_through-requires-clause-may
 write_through-requires-clause-may g c =
     let m = c.args.monitor.now in let d = c.args.self.now in let may = g.P.Allows.may m.rights in let held = c.mapped_page-held.result in
-    let there : value_of d.mappings c.args.handle ≡ Some held = sym c.get.ensures.value ∙ ap option_copied c.unwrap-kept.ensures ∙ ap (λ (m : HeldPin). Some m) (sym c.mapped_page-held.ensures) in
+    let there = c.mapped_page-held.ensures in
     (c.requires.mine.mapped c.args.handle held there).allowed
 
 pub returns-clause-answers : goal.returns-clause-answers
 returns-clause-answers g c =
     let m = c.args.monitor.now in let d = c.args.self.now in let may = g.P.Allows.may m.rights in let held = c.mapped_page-held.result in
-    let there : value_of d.mappings c.args.handle ≡ Some held = sym c.get.ensures.value ∙ ap option_copied c.unwrap-kept.ensures ∙ ap (λ (m : HeldPin). Some m) (sym c.mapped_page-held.ensures) in
+    let there = c.mapped_page-held.ensures in
     let k = knowledge m.config may d in
     let way = mapped-way k d.seat.dom (requests.Store c.args.handle c.args.off c.args.bytes) c.args.handle held (λ (p : HeldPin). call_steps.Write p.dom (frame_of p.entry) c.args.off (length c.args.bytes.now)) (sym c.judge_store.ensures ∙ none-left c.judge_store.result c.in_default.not-Some) there refl in (
       one-access m.words _ (call_steps.Write held.dom (frame_of held.entry) c.args.off (length c.args.bytes.now)) (IsWrittenBy m.words.layout d (requests.Store c.args.handle c.args.off c.args.bytes)) c.write_through.result d.seat.view c.write_through.new.seat.view tt way
